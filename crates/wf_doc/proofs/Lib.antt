@@ -1,0 +1,12 @@
+pub mod FieldLemmas
+pub mod DocLemmas
+pub mod JsonLemmas
+pub mod Floatless
+pub mod WholeNumbers
+pub mod WholeTokens
+pub mod WholeJson
+pub mod PrintLemmas
+pub mod DigitLemmas
+pub mod ReadLemmas
+pub mod SizeLemmas
+pub mod PathLemmas

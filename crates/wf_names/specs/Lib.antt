@@ -1,0 +1,4 @@
+pub mod FlowStatus
+pub mod Ids
+pub mod Refusal
+pub mod TaskStatus

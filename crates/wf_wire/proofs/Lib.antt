@@ -1,0 +1,13 @@
+mod TargetLemmas
+mod RoomLemmas
+mod Alive
+mod FieldLemmas
+mod NumberLemmas
+mod CloseLemmas
+mod ReaderLemmas
+mod MessageLemmas
+mod NextLemmas
+mod StreamLemmas
+mod MemoryLemmas
+mod SinkLemmas
+mod ItemsLemmas

@@ -1,0 +1,11 @@
+pub mod Stream
+pub mod Fields
+pub mod Closing
+pub mod Request
+pub mod Front
+pub mod Framing
+pub mod Inbox
+pub mod Items
+pub mod Calls
+pub mod Reading
+pub mod MessageReading
