@@ -1,0 +1,4 @@
+pub mod StepLemmas
+pub mod PlaceLemmas
+pub mod HistoryLemmas
+pub mod ServingLemmas

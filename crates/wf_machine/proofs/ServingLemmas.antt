@@ -1,0 +1,78 @@
+-- Answers that grow by one.
+use Rattle.std.proofs.Common.{◌≡◌, ℕ, ◌&&◌, true, List, [], ◌∷◌, ◌++◌, Option, None, Some, refl, sym, ap, ◌∙◌, append_assoc}
+use Rattle.std.specs.List.{cons_option}
+use Rattle.std.proofs.lemmas.List.{append-nil}
+use Rattle.std.proofs.lemmas.List.Elements.{filter_map-append}
+use Rattle.std.proofs.lemmas.List.Folds.{list_all-append}
+use Rattle.wf_wire.specs.Request.{Request}
+use Rattle.wf_wire.specs.declared.limits.Limits.{Limits}
+use Rattle.wf_machine.specs.declared.calling.Call.{Call}
+use Rattle.wf_machine.specs.declared.calling.Reply.{Reply}
+use Rattle.wf_machine.specs.declared.calling.Entry.{Entry}
+use Rattle.wf_machine.specs.State.{State}
+use Rattle.wf_machine.specs.Calls.{is_starved, entry_of}
+use Rattle.wf_machine.specs.History.{stored, state_after, replies_of}
+use Rattle.wf_machine.specs.Requests.{call_of}
+use Rattle.wf_machine.specs.Serving.{Answered, IsAsked, IsLegal, entry_made, entry_with, fits, history_of, replies_made, reply_made, reply_with, wire, answer_bytes}
+use Rattle.wf_machine.proofs.HistoryLemmas.{state-more, replies-more}
+
+-- what one more request adds to a history
+record Adds (limits : Limits) (start new : State) (history : List Entry) (given : List Reply) (call : Option Call) (reply : Option Reply) (entry : Option Entry) : Type 0 where
+  calls : fits call reply ≡ true
+  replies : given ++ cons_option (reply_with call reply) [] ≡ replies_of limits start (history ++ cons_option entry [])
+  state : stored (state_after limits start (history ++ cons_option entry [])) ≡ stored new
+
+module _ (limits : Limits) (start : State) (moment : ℕ) (t new : State) where
+  adds_nothing : (history : List Entry) (replies : List Reply) → replies ≡ replies_of limits start history → stored (state_after limits start history) ≡ stored t → new ≡ t
+      → record { replies : replies ++ [] ≡ replies_of limits start (history ++ []); state : stored (state_after limits start (history ++ [])) ≡ stored new }
+  adds_nothing history replies legal same kept = record {
+    replies = append-nil replies ∙ legal ∙ ap (replies_of limits start) (sym (append-nil history));
+    state = ap (λ h. stored (state_after limits start h)) (append-nil history) ∙ same ∙ ap stored (sym kept);
+  }
+
+  adds : (history : List Entry) (replies : List Reply) (call : Option Call) (reply : Option Reply) → replies ≡ replies_of limits start history
+      → stored (state_after limits start history) ≡ stored t → IsAsked limits moment t new call reply
+      → Adds limits start new history replies call reply (entry_with moment call reply)
+  adds history replies (Some call) (Some reply) legal same asked = record {
+    calls = refl;
+    replies = ap (λ rs. rs ++ reply ∷ []) legal ∙ sym (replies-more limits asked.0 t new (entry_of 0 moment call reply) reply asked.1 0 start history same);
+    state = state-more limits asked.0 t new (entry_of 0 moment call reply) reply asked.1 0 start history same;
+  }
+  adds history replies (Some call) None legal same asked = absurd asked
+  adds history replies None None legal same asked =
+      let kept = adds_nothing history replies legal same asked in
+      record { calls = refl; replies = kept.replies; state = kept.state }
+  adds history replies None (Some reply) legal same asked =
+      let kept = adds_nothing history replies legal same asked.0 in
+      record { calls = ap is_starved asked.1; replies = kept.replies; state = kept.state }
+
+  abbrev answer : Request → Option Reply → Answered
+  answer m reply = record { request = m; reply = reply }
+
+  -- one more request was asked: the answers are legal still, and the state is the one that their history leads to
+  pub legal_more : (answered : List Answered) (m : Request) (reply : Option Reply) → IsLegal limits start moment answered
+      → stored (state_after limits start (history_of limits moment answered)) ≡ stored t → IsAsked limits moment t new (call_of limits m) reply
+      → IsLegal limits start moment (answered ++ answer m reply ∷ [])
+  legal_more answered m reply legal same asked =
+      let more = adds (history_of limits moment answered) (replies_made limits answered) (call_of limits m) reply legal.replies same asked in
+      record {
+        calls = list_all-append _ answered (answer m reply ∷ [])
+            ∙ ap (λ b. b && (fits (call_of limits m) reply && true)) legal.calls ∙ ap (λ b. b && true) more.calls;
+        replies = filter_map-append (reply_made limits) answered (answer m reply ∷ []) ∙ more.replies
+            ∙ ap (replies_of limits start) (sym (filter_map-append (entry_made limits moment) answered (answer m reply ∷ [])));
+      }
+
+  pub state_more : (answered : List Answered) (m : Request) (reply : Option Reply) → IsLegal limits start moment answered
+      → stored (state_after limits start (history_of limits moment answered)) ≡ stored t → IsAsked limits moment t new (call_of limits m) reply
+      → stored (state_after limits start (history_of limits moment (answered ++ answer m reply ∷ []))) ≡ stored new
+  state_more answered m reply legal same asked =
+      let more = adds (history_of limits moment answered) (replies_made limits answered) (call_of limits m) reply legal.replies same asked in
+      ap (λ h. stored (state_after limits start h)) (filter_map-append (entry_made limits moment) answered (answer m reply ∷ [])) ∙ more.state
+
+-- the bytes of one more answer come after the others
+pub wire-more : (mark : ℕ) (answered : List Answered) (m : Request) (reply : Option Reply)
+    → wire mark (answered ++ record { request = m; reply = reply } ∷ []) ≡ wire mark answered ++ answer_bytes mark m reply
+wire-more mark [] m reply = append-nil (answer_bytes mark m reply)
+wire-more mark (a ∷ rest) m reply =
+    ap (λ bytes. answer_bytes mark a.request a.reply ++ bytes) (wire-more mark rest m reply)
+    ∙ sym (append_assoc (answer_bytes mark a.request a.reply) (wire mark rest) (answer_bytes mark m reply))

@@ -1,0 +1,115 @@
+-- The bytes of replies, framed as HTTP/1.1 frames them.
+use Rattle.std.specs.Prelude.{ℕ, pos, ◌==◌, ◌<◌, ◌^◌, Bool, if◌then◌else◌, List, [], ◌∷◌, ◌++◌, length, codes}
+use Rattle.std.specs.Fmt.{decimal}
+use Rattle.wf_doc.specs.declared.doc.Doc.{Doc}
+use Rattle.wf_doc.specs.declared.doc.Doc.TheVariants.{Int, Text, Table}
+use Rattle.wf_doc.specs.Fields.{entry}
+use Rattle.wf_doc.specs.Json.{printed}
+use Rattle.wf_names.specs.Ids.{id_text}
+use Rattle.wf_names.specs.Refusal.{refusal_code, refusal_status, refusal_message}
+use Rattle.wf_machine.specs.declared.calling.Reply.{Reply}
+use Rattle.wf_machine.specs.declared.calling.Reply.TheVariants.{Accepted, Id, Json, Nothing, Refused}
+use Rattle.wf_machine.specs.declared.faulting.HttpFault.{HttpFault}
+use Rattle.wf_machine.specs.declared.faulting.HttpFault.TheVariants.{BadFrame, Coding, HeadTooLarge, BodyTooLarge, NotBuilt, NoMemory}
+
+-- a reply's status, its body and the body's media type
+pub record Response : Type 0 where
+  pub status : ℕ
+  pub media : List ℕ
+  pub body : List ℕ
+
+-- ---- framing
+
+abbrev pub line : List ℕ → List ℕ
+line text = text ++ 13 ∷ 10 ∷ []
+
+-- the phrase of a status
+abbrev pub phrase_of : ℕ → List ℕ
+phrase_of status =
+    if status == 200 then codes "OK"
+    else if status == 204 then codes "No Content"
+    else if status == 400 then codes "Bad Request"
+    else if status == 404 then codes "Not Found"
+    else if status == 405 then codes "Method Not Allowed"
+    else if status == 409 then codes "Conflict"
+    else if status == 413 then codes "Content Too Large"
+    else if status == 415 then codes "Unsupported Media Type"
+    else if status == 431 then codes "Request Header Fields Too Large"
+    else if status == 500 then codes "Internal Server Error"
+    else if status == 501 then codes "Not Implemented"
+    else codes "Service Unavailable"
+
+abbrev pub status_line : ℕ → List ℕ
+status_line status = line (codes "HTTP/1.1 " ++ decimal status ++ 32 ∷ phrase_of status)
+
+abbrev pub connection_line : Bool → List ℕ
+connection_line close = if close then line (codes "Connection: close") else []
+
+-- a body that isn't empty has a type
+abbrev pub type_line : Response → List ℕ
+type_line r = if length r.body == 0 then [] else line (codes "Content-Type: " ++ r.media)
+
+-- No Content has no length
+abbrev pub length_line : Response → List ℕ
+length_line r = if r.status == 204 then [] else line (codes "Content-Length: " ++ decimal (length r.body))
+
+-- the reply to HEAD has all the fields and no body
+abbrev pub sent_body : Bool → List ℕ → List ℕ
+sent_body head body = if head then [] else body
+
+unfoldable pub response_bytes : Response → Bool → Bool → List ℕ
+response_bytes r close head =
+    status_line r.status ++ connection_line close ++ type_line r ++ length_line r ++ line [] ++ sent_body head r.body
+
+-- ---- replies
+
+abbrev pub empty_response : ℕ → Response
+empty_response status = record { status = status; media = []; body = [] }
+
+abbrev pub text_response : List ℕ → Response
+text_response text = record { status = 200; media = codes "text/plain"; body = text }
+
+abbrev pub json_response : ℕ → Doc → Response
+json_response status doc = record { status = status; media = codes "application/json"; body = printed doc }
+
+-- what a refusal says of itself
+abbrev pub refusal_document : List ℕ → List ℕ → ℕ → Doc
+refusal_document code message status =
+    Table (entry (codes "code") (Text code) ∷ entry (codes "message") (Text message) ∷ entry (codes "status") (Int (pos status)) ∷ [])
+
+abbrev pub refusal_response : List ℕ → List ℕ → ℕ → Response
+refusal_response code message status = json_response status (refusal_document code message status)
+
+-- the reply of a store with that mark
+abbrev pub response_of : ℕ → Reply → Response
+response_of mark Accepted = empty_response 200
+response_of mark (Id kind number) = text_response (id_text mark kind number)
+response_of mark (Json doc) = json_response 200 doc
+response_of mark Nothing = empty_response 204
+response_of mark (Refused r) = refusal_response (refusal_code r) (refusal_message r) (refusal_status r)
+
+-- a row of the table of faults: code, status, message
+abbrev pub fault_row : HttpFault → List ℕ × ℕ × List ℕ
+fault_row BadFrame = (codes "BAD_FRAME", 400, codes "not an HTTP message")
+fault_row Coding = (codes "CODING", 501, codes "unknown transfer coding")
+fault_row HeadTooLarge = (codes "HEAD_TOO_LARGE", 431, codes "the head is too large")
+fault_row BodyTooLarge = (codes "BODY_TOO_LARGE", 413, codes "the body is too large")
+fault_row NotBuilt = (codes "NOT_BUILT", 501, codes "not built yet")
+fault_row NoMemory = (codes "NO_MEMORY", 500, codes "no memory")
+
+abbrev pub fault_response : HttpFault → Response
+fault_response fault = refusal_response (fault_row fault).0 (fault_row fault).2 (fault_row fault).1
+
+-- ---- their bytes
+
+-- the bytes of a reply: `close` where the connection ends after it, `head` where the request was a HEAD
+abbrev pub printed_reply : ℕ → Reply → Bool → Bool → List ℕ
+printed_reply mark reply close head = response_bytes (response_of mark reply) close head
+
+abbrev pub printed_fault : HttpFault → Bool → Bool → List ℕ
+printed_fault fault close head = response_bytes (fault_response fault) close head
+
+-- the number of an id fits its text
+abbrev pub IsPrintable : Reply → Type 0
+IsPrintable (Id kind number) = number < 2 ^ 56
+IsPrintable _ = Unit {0}

@@ -1,0 +1,96 @@
+-- What a server answers to a list of requests, and that its answers are those of one history.
+use Rattle.std.specs.Prelude.{◌≡◌, ℕ, Bool, true, false, if◌then◌else◌, List, [], ◌∷◌, ◌++◌, map, codes, Option, None, Some}
+use Rattle.std.specs.List.{filter_map, list_all, list_any}
+use Rattle.wf_names.specs.declared.refusals.Refusal.TheVariants.{NoMemory}
+use Rattle.wf_wire.specs.Request.{Request, closes}
+use Rattle.wf_wire.specs.declared.limits.Limits.{Limits}
+use Rattle.wf_machine.specs.declared.calling.Call.{Call}
+use Rattle.wf_machine.specs.declared.calling.Reply.{Reply}
+use Rattle.wf_machine.specs.declared.calling.Reply.TheVariants.{Refused}
+use Rattle.wf_machine.specs.declared.calling.Entry.{Entry}
+use Rattle.wf_machine.specs.declared.faulting.HttpFault.TheVariants.{NotBuilt}
+use Rattle.wf_machine.specs.State.{State}
+use Rattle.wf_machine.specs.Calls.{stepped, same_text, is_starved, entry_of, step}
+use Rattle.wf_machine.specs.History.{replies_of}
+use Rattle.wf_machine.specs.Replies.{printed_reply, printed_fault}
+use Rattle.wf_machine.specs.Requests.{call_of}
+
+-- a request that was answered: by a reply where it is a call
+pub record Answered : Type 0 where
+  pub request : Request
+  pub reply : Option Reply
+
+abbrev pub is_head : Request → Bool
+is_head m = same_text m.method (codes "HEAD")
+
+-- the bytes of one answer
+abbrev pub answer_bytes : ℕ → Request → Option Reply → List ℕ
+answer_bytes mark m None = printed_fault NotBuilt (closes m) (is_head m)
+answer_bytes mark m (Some reply) = printed_reply mark reply (closes m) (is_head m)
+
+-- the bytes of the answers, one after another
+abbrev pub wire : ℕ → List Answered → List ℕ
+wire mark [] = []
+wire mark (a ∷ rest) = answer_bytes mark a.request a.reply ++ wire mark rest
+
+-- the requests up to and with the first that closes
+abbrev pub served : List Request → List Request
+served [] = []
+served (m ∷ ms) = if closes m then m ∷ [] else m ∷ served ms
+
+-- one of the requests closes
+abbrev pub ends_closed : List Request → Bool
+ends_closed ms = list_any closes ms
+
+abbrev pub requests : List Answered → List Request
+requests answered = map (λ a. a.request) answered
+
+-- ---- the history
+
+abbrev pub entry_with : ℕ → Option Call → Option Reply → Option Entry
+entry_with moment (Some call) (Some reply) = Some (entry_of 0 moment call reply)
+entry_with moment (Some call) None = None
+entry_with moment None reply = None
+
+-- the entry of an answered request, where it is a call
+abbrev pub entry_made : Limits → ℕ → Answered → Option Entry
+entry_made limits moment a = entry_with moment (call_of limits a.request) a.reply
+
+-- the calls among the requests, in their order; one that was refused for want of memory is starved, also where
+-- memory was wanting while it was read
+abbrev pub history_of : Limits → ℕ → List Answered → List Entry
+history_of limits moment answered = filter_map (entry_made limits moment) answered
+
+abbrev pub reply_with : Option Call → Option Reply → Option Reply
+reply_with (Some call) reply = reply
+reply_with None reply = None
+
+-- the reply to a request, where it is a call
+abbrev pub reply_made : Limits → Answered → Option Reply
+reply_made limits a = reply_with (call_of limits a.request) a.reply
+
+-- the replies to the calls among the requests, in their order
+abbrev pub replies_made : Limits → List Answered → List Reply
+replies_made limits answered = filter_map (reply_made limits) answered
+
+-- each call is given a reply, and a request that is no call none, but where memory was wanting while it was read
+abbrev pub fits : Option Call → Option Reply → Bool
+fits (Some call) (Some reply) = true
+fits (Some call) None = false
+fits None None = true
+fits None (Some reply) = is_starved reply
+
+-- the replies are those of the machine, from this state, to the calls among the requests
+pub record IsLegal (limits : Limits) (start : State) (moment : ℕ) (answered : List Answered) : Type 0 where
+  pub calls : list_all (λ (a : Answered). fits (call_of limits a.request) a.reply) answered ≡ true
+  pub replies : replies_made limits answered ≡ replies_of limits start (history_of limits moment answered)
+
+-- ---- one request
+
+-- what a request does to the state, and the reply that it is given
+abbrev pub IsAsked : Limits → ℕ → State → State → Option Call → Option Reply → Type 0
+IsAsked limits moment old new (Some call) (Some reply) =
+    (place : ℕ) × (stepped new reply ≡ step limits place old (entry_of 0 moment call reply))
+IsAsked limits moment old new (Some call) None = ⊥
+IsAsked limits moment old new None None = new ≡ old
+IsAsked limits moment old new None (Some reply) = (new ≡ old) × (reply ≡ Refused NoMemory)
