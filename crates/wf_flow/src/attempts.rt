@@ -1,0 +1,109 @@
+//! The attempts of one flow, with room for more.
+
+ghost use Rattle.std.specs.Prelude.{◌≡◌, [], ◌∷◌, ◌++◌, ◌+◌, ◌<◌, ◌≤◌, length, slice_get, slice_set, IfNone, IfOk, IfSome, OnOk, None, Some};
+ghost use Rattle.std.specs.Option.{option_copied};
+ghost use Rattle.wf_machine.specs.State.{RisingFrom, attempt_numbered};
+ghost use Rattle.wf_flow.specs.Room.{IsPlaceOf};
+
+use crate::attempt::Attempt;
+use crate::no_memory::NoMemory;
+use std::alloc::Global;
+use std::marker::Model;
+use std::mem;
+use wf_names::TaskNo;
+
+#[derive(Drop)]
+pub struct Attempts {
+    items: Vec<Attempt>,
+}
+
+impl Model for Attempts {
+    ghost use Rattle.std.specs.Prelude.{◌-◌};
+    ghost use Rattle.std.specs.Vec.{vec_capacity, vec_len};
+    ghost use Rattle.wf_doc.specs.contracts.doc.Doc as doc;
+    ghost use Rattle.std.specs.Coded.{codes};
+    ghost use Rattle.wf_flow.specs.Room.{AttemptRoom};
+
+    ghost Value = { AttemptRoom };
+
+    ghost coded = { Prim.hlevel (codes, doc.the_row.coded) };
+
+    ghost view = { λ a. record { items = a.items.items; spare = vec_capacity a.items - vec_len a.items } };
+}
+
+impl Attempts {
+    pub fn new(alloc: Global) -> Attempts
+        ensures { result.items ≡ [] }
+    {
+        Attempts {
+            items: Vec::new(alloc),
+        }
+    }
+
+    pub fn as_slice(&self) -> &[Attempt]
+        ensures { result.now ≡ self.now.items }
+    {
+        self.items.as_slice()
+    }
+
+    pub fn len(&self) -> usize
+        ensures { result ≡ length self.now.items }
+    {
+        self.items.len()
+    }
+
+    pub fn get(&self, place: usize) -> Option<&Attempt>
+        ensures { option_copied result ≡ slice_get self.now.items place }
+    {
+        self.items.get(place)
+    }
+
+    /// The place of the attempt of that number.
+    pub fn place(&self, task: TaskNo) -> Option<usize>
+        requires { RisingFrom 1 self.now.items }
+        ensures none { IfNone result (attempt_numbered task self.now.items ≡ None) }
+        ensures some { IfSome result (λ place. IsPlaceOf task self.now.items place) }
+    {
+        self.items
+            .binary_search_by_key(&task.0, |attempt| attempt.number().0)
+            .ok()
+    }
+
+    pub fn reserve(&mut self, more: usize) -> Result<(), NoMemory>
+        ensures items { self.new.items ≡ self.old.items }
+        ensures room { OnOk result (more ≤ self.new.spare) }
+        ensures kept { self.old.spare ≤ self.new.spare }
+    {
+        self.items.reserve(more)?;
+        Ok(())
+    }
+
+    /// Puts an attempt at the end.
+    pub fn add(&mut self, attempt: Attempt)
+        requires { 0 < self.old.spare }
+        ensures items { self.new.items ≡ self.old.items ++ attempt ∷ [] }
+        ensures room { self.old.spare ≤ self.new.spare + 1 }
+    {
+        let _ = self.items.push(attempt);
+    }
+
+    pub fn replace(&mut self, place: usize, attempt: Attempt) -> Attempt
+        requires { place < length self.old.items }
+        ensures old { slice_get self.old.items place ≡ Some result }
+        ensures items { self.new.items ≡ slice_set self.old.items place attempt }
+        ensures room { self.new.spare ≡ self.old.spare }
+    {
+        mem::replace(&mut self.items[place], attempt)
+    }
+
+    /// A list of equal attempts.
+    pub fn copy(&self, alloc: Global) -> Result<Attempts, NoMemory>
+        ensures { IfOk result (λ attempts. attempts.items ≡ self.now.items) }
+    {
+        let mut items = Vec::new(alloc);
+        for attempt in &self.items {
+            items.push(attempt.copy(alloc)?)?;
+        }
+        Ok(Attempts { items })
+    }
+}

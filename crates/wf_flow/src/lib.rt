@@ -1,0 +1,20 @@
+//! The record of one workflow instance, a flow, and of the attempts at its nodes.
+//!
+//! Contracts see a flow and an attempt as the records of the machine's definitions. A flow keeps room for
+//! attempts, so that a change that was prepared takes no memory.
+#![tactic(auto)]
+
+mod attempt;
+mod attempts;
+mod empty;
+mod flow;
+mod no_memory;
+#[cfg(test)]
+mod tests;
+
+pub use attempt::Attempt;
+pub use flow::Flow;
+pub use no_memory::NoMemory;
+
+/// Flows in an order that the holder gives them.
+pub type Flows = wf_doc::Items<Flow>;
