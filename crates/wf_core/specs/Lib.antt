@@ -1,0 +1,3 @@
+pub mod Room
+pub mod Store
+pub mod Changes
