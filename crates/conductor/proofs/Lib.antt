@@ -1,0 +1,4 @@
+pub mod TurnLemmas
+pub mod CompleteLemmas
+pub mod RequestLemmas
+pub mod StandardLemmas

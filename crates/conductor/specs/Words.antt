@@ -1,0 +1,10 @@
+-- The grammar of the command line.
+use Rattle.std.specs.Prelude.{Bool, false, List, [], ◌∷◌, codes, String, string_bytes}
+use Rattle.std.specs.declared.alloc.Global.{Global}
+use Rattle.wf_machine.specs.Calls.{same_text}
+
+-- the one word `batch`
+abbrev pub are_batch : List (String Global) → Bool
+are_batch [] = false
+are_batch (word ∷ []) = same_text (string_bytes word) (codes "batch")
+are_batch (word ∷ more ∷ rest) = false

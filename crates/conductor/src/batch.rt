@@ -1,0 +1,252 @@
+//! The command `batch`: requests from a source, their replies to a sink, one after another.
+
+ghost use Rattle.std.specs.Prelude.{◌≡◌, ◌≢◌, ◌<◌, ◌≤◌, ◌+◌, ◌^◌, ◌⊎◌, ◌↔◌, IfOk, IfSome, true, false, length};
+ghost use Rattle.wf_wire.specs.Stream.{Rose};
+ghost use Rattle.wf_wire.specs.Items.{Coming};
+ghost use Rattle.wf_machine.specs.Replies.{IsPrintable, printed_fault};
+ghost use Rattle.wf_machine.specs.Requests.{call_of};
+ghost use Rattle.wf_machine.specs.Serving.{IsAsked, answer_bytes};
+ghost use Rattle.conductor.specs.Words.{are_batch};
+ghost use Rattle.conductor.specs.Runs.{CompletesAtOnce, IsNoMessage, RunsAtOnce, RunsOver, first_mark, first_state};
+ghost use Rattle.conductor.specs.Turns.{IsAnswer, IsAnswered, IsRefused, IsStopped, IsTurn};
+
+use crate::rest::replies::{print_fault, print_reply};
+use crate::rest::requests::read_call;
+use crate::status::Status;
+use crate::words::{Word, is_batch};
+use std::alloc::Global;
+use wf_core::Core;
+use wf_doc::{NoMemory, Text};
+use wf_machine::{HttpFault, Reply};
+use wf_names::Refusal;
+use wf_wire::laws::{items_are_unique, read_messages_are_first};
+use wf_wire::{Clock, Inbox, Limits, Message, Next, Sink, Source, next_message, write_all};
+
+/// The mark of the store, which is new at each run.
+const MARK: u32 = 1;
+
+/// The last moment that there is, in milliseconds.
+const LAST_MOMENT: u64 = 9_007_199_254_740_991;
+
+/// More messages than an input can hold.
+const MOST_TURNS: u64 = 1 << 61;
+
+/// What one turn comes to.
+#[derive(Clone, Copy, Debug, PartialEq, Eq)]
+pub enum Turn {
+    /// Another request may follow.
+    Goes,
+    Stops(Status),
+}
+
+/// Answers one request.
+fn answer<W: Sink>(
+    alloc: Global,
+    moment: u64,
+    core: &mut Core,
+    sink: &mut W,
+    message: &Message,
+) -> Turn
+    requires { core.old.entries < 2 ^ 62 }
+    ensures turn { IsAnswered core.old.limits moment core.old.state core.new.state message.now (W.taken sink.old) (W.taken sink.new) result }
+    ensures limits { core.new.limits ≡ core.old.limits }
+    ensures entries { core.new.entries ≤ core.old.entries + 1 }
+    ensures count { W.faults sink.old ≤ W.faults sink.new }
+    ensures cause { result ≡ Turn.Stops Status.WriteFault → Rose (W.faults sink.old) (W.faults sink.new) }
+    ensures own_status { (result ≢ Turn.Stops Status.Usage) × (result ≢ Turn.Stops Status.ReadFault) }
+{
+    let text = match answer_text(alloc, moment, core, message) {
+        Ok(text) => text,
+        Err(NoMemory) => return Turn::Stops(Status::NoMemory),
+    };
+    if write_all(sink, text.as_str().as_bytes()).is_err() {
+        return Turn::Stops(Status::WriteFault);
+    }
+    if message.closes() {
+        Turn::Stops(Status::Done)
+    } else {
+        Turn::Goes
+    }
+}
+
+/// Asks the machine what a request asks for, and prints the answer.
+fn answer_text(
+    alloc: Global,
+    moment: u64,
+    core: &mut Core,
+    message: &Message,
+) -> Result<Text, NoMemory>
+    requires { core.old.entries < 2 ^ 62 }
+    ensures answer { IfOk result (IsAnswer core.old.limits moment core.old.state core.new.state message.now) }
+    ensures limits { core.new.limits ≡ core.old.limits }
+    ensures entries { core.new.entries ≤ core.old.entries + 1 }
+{
+    let reply = ask(alloc, moment, core, message);
+    print_answer(alloc, message, &reply)
+}
+
+/// The machine's reply to a request, where it is a call. Where memory was wanting while it was read, the reply says so.
+fn ask(alloc: Global, moment: u64, core: &mut Core, message: &Message) -> Option<Reply>
+    requires { core.old.entries < 2 ^ 62 }
+    ensures asked { IsAsked core.old.limits moment core.old.state core.new.state (call_of core.old.limits message.now) result }
+    ensures printable { IfSome result IsPrintable }
+    ensures limits { core.new.limits ≡ core.old.limits }
+    ensures entries { core.new.entries ≤ core.old.entries + 1 }
+{
+    match read_call(alloc, message, core.limits()) {
+        Ok(call) => Some(core.step(alloc, 0, moment, call)),
+        Err(HttpFault::NoMemory) => Some(Reply::Refused(Refusal::NoMemory)),
+        Err(_) => None,
+    }
+}
+
+fn print_answer(alloc: Global, message: &Message, reply: &Option<Reply>) -> Result<Text, NoMemory>
+    requires { IfSome reply.now IsPrintable }
+    ensures { IfOk result (λ text. text ≡ answer_bytes first_mark message.now reply.now) }
+{
+    let close = message.closes();
+    let head = message.method() == b"HEAD".as_slice();
+    match reply {
+        Some(reply) => print_reply(alloc, reply, MARK, close, head),
+        None => print_fault(alloc, HttpFault::NotBuilt, close, head),
+    }
+}
+
+/// Writes a fault that ends the input, and tells the status, if it could be written.
+fn refuse<W: Sink>(alloc: Global, sink: &mut W, fault: HttpFault, status: Status) -> Status
+    ensures refused { IsRefused (printed_fault fault true false) status (W.taken sink.old) (W.taken sink.new) result }
+    ensures count { W.faults sink.old ≤ W.faults sink.new }
+    ensures cause { result ≡ Status.WriteFault → (status ≡ Status.WriteFault) ⊎ Rose (W.faults sink.old) (W.faults sink.new) }
+    ensures own_status { result ≡ Status.Usage → status ≡ Status.Usage }
+{
+    let text = match print_fault(alloc, fault, true, false) {
+        Ok(text) => text,
+        Err(NoMemory) => return Status::NoMemory,
+    };
+    if write_all(sink, text.as_str().as_bytes()).is_err() {
+        return Status::WriteFault;
+    }
+    status
+}
+
+/// Stops where there is no message.
+fn stop<W: Sink>(alloc: Global, sink: &mut W, end: Next) -> Status
+    requires { IsNoMessage end }
+    ensures stopped { IsStopped end (W.taken sink.old) (W.taken sink.new) result }
+    ensures read_fault { result ≡ Status.ReadFault → end ≡ Next.ReadFault }
+    ensures count { W.faults sink.old ≤ W.faults sink.new }
+    ensures cause { result ≡ Status.WriteFault → Rose (W.faults sink.old) (W.faults sink.new) }
+    ensures own_status { result ≢ Status.Usage }
+{
+    match end {
+        Next::Message(_) => unreachable!(),
+        Next::End => Status::Done,
+        Next::Cut(at) => Status::Cut(at),
+        Next::BadFrame(at) => refuse(alloc, sink, HttpFault::BadFrame, Status::BadFrame(at)),
+        Next::BadCoding(at) => refuse(alloc, sink, HttpFault::Coding, Status::BadFrame(at)),
+        Next::LargeHead(at) => refuse(alloc, sink, HttpFault::HeadTooLarge, Status::TooLarge(at)),
+        Next::LargeBody(at) => refuse(alloc, sink, HttpFault::BodyTooLarge, Status::TooLarge(at)),
+        Next::LongInput => Status::LongInput,
+        Next::ReadFault => Status::ReadFault,
+        Next::NoMemory => Status::NoMemory,
+    }
+}
+
+/// Answers the next request of the source, or stops.
+fn take_turn<R: Source, W: Sink>(
+    alloc: Global,
+    moment: u64,
+    core: &mut Core,
+    inbox: &mut Inbox,
+    source: &mut R,
+    sink: &mut W,
+) -> Turn
+    requires entries { core.old.entries < 2 ^ 62 }
+    requires within { inbox.old.offset + length inbox.old.held ≤ core.old.limits.input }
+    ensures turn { Coming inbox.old.held (R.left source.old) inbox.new.held (R.left source.new) (λ p left p'.
+        IsTurn core.old.limits moment inbox.old.offset p left inbox.new.offset p' core.old.state core.new.state (W.taken sink.old) (W.taken sink.new) result) }
+    ensures within { result ≡ Turn.Goes → inbox.new.offset + length inbox.new.held ≤ core.old.limits.input }
+    ensures limits { core.new.limits ≡ core.old.limits }
+    ensures entries { core.new.entries ≤ core.old.entries + 1 }
+    ensures source_count { R.faults source.old ≤ R.faults source.new }
+    ensures sink_count { W.faults sink.old ≤ W.faults sink.new }
+    ensures read_fault { result ≡ Turn.Stops Status.ReadFault → Rose (R.faults source.old) (R.faults source.new) }
+    ensures write_fault { result ≡ Turn.Stops Status.WriteFault → Rose (W.faults sink.old) (W.faults sink.new) }
+    ensures own_status { result ≢ Turn.Stops Status.Usage }
+{
+    match next_message(alloc, inbox, source, core.limits()) {
+        Next::Message(message) => answer(alloc, moment, core, sink, &message),
+        end => Turn::Stops(stop(alloc, sink, end)),
+    }
+}
+
+/// Answers the requests of the source, up to the first that closes or to the end of the input.
+fn serve<R: Source, W: Sink>(
+    alloc: Global,
+    moment: u64,
+    core: &mut Core,
+    source: &mut R,
+    sink: &mut W,
+) -> Status
+    requires state { core.old.state ≡ first_state }
+    requires entries { core.old.entries ≡ 0 }
+    ensures run { RunsOver core.old.limits moment (R.left source.old) (R.left source.new) (W.taken sink.old) (W.taken sink.new) result }
+    ensures source_count { R.faults source.old ≤ R.faults source.new }
+    ensures sink_count { W.faults sink.old ≤ W.faults sink.new }
+    ensures read_fault { result ≡ Status.ReadFault → Rose (R.faults source.old) (R.faults source.new) }
+    ensures write_fault { result ≡ Status.WriteFault → Rose (W.faults sink.old) (W.faults sink.new) }
+    ensures usage { result ≢ Status.Usage }
+{
+    let mut inbox = match Inbox::new(alloc) {
+        Ok(inbox) => inbox,
+        Err(_) => return Status::NoMemory,
+    };
+    for _turn in 0..MOST_TURNS {
+        match take_turn(alloc, moment, core, &mut inbox, source, sink) {
+            Turn::Goes => {}
+            Turn::Stops(status) => return status,
+        }
+    }
+    Status::NoMemory
+}
+
+/// Answers HTTP requests, one after another, over a new store that is kept nowhere.
+///
+/// The words are `batch` alone. Each request acts at the clock's one reading, in milliseconds. Where an answer or an
+/// end finds no memory, nothing more is written; a call that finds none is answered NO_MEMORY, and the run goes on.
+pub fn batch<R: Source, W: Sink, C: Clock>(
+    alloc: Global,
+    words: &[Word],
+    source: &mut R,
+    sink: &mut W,
+    clock: &mut C,
+) -> Status
+    // The answers are those of one history of the machine.
+    ensures run { are_batch words.now ≡ true → RunsAtOnce (C.readings clock.old) (R.left source.old) (R.left source.new) (W.taken sink.old) (W.taken sink.new) result }
+
+    // When each fault may come.
+    ensures usage { (result ≡ Status.Usage) ↔ (are_batch words.now ≡ false) }
+    ensures read_fault { result ≡ Status.ReadFault → Rose (R.faults source.old) (R.faults source.new) }
+    ensures write_fault { result ≡ Status.WriteFault → Rose (W.faults sink.old) (W.faults sink.new) }
+
+    // Words that are no command touch nothing.
+    ensures idle { are_batch words.now ≡ false → (R.left source.new ≡ R.left source.old) × (W.taken sink.new ≡ W.taken sink.old) }
+
+    // Where nothing fails, all is answered, but for want of memory.
+    ensures complete { are_batch words.now ≡ true → ¬ (Rose (R.faults source.old) (R.faults source.new)) → ¬ (Rose (W.faults sink.old) (W.faults sink.new))
+        → CompletesAtOnce (C.readings clock.old) (R.left source.old) (W.taken sink.old) (W.taken sink.new) result }
+{
+    if !is_batch(words) {
+        return Status::Usage;
+    }
+    let moment = clock.now().min(LAST_MOMENT);
+    match Core::new(alloc, MARK, Limits::STANDARD) {
+        Ok(mut core) => {
+            // The clause `complete` stands on these laws of the wire.
+            items_are_unique();
+            read_messages_are_first();
+            serve(alloc, moment, &mut core, source, sink)
+        }
+        Err(_) => Status::NoMemory,
+    }
+}
