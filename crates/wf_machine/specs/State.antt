@@ -65,7 +65,7 @@ pub record Kept : Type 0 where
   pub flow : Flow
   pub revision : ℕ
 
--- the whole state: flows by rising number, and of each definition list the order of registration
+-- the whole state: definitions by name and then by version, flows by rising number, hand-outs by name
 pub record State : Type 0 where
   pub mark : ℕ
   pub last : ℕ
