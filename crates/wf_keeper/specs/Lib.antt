@@ -1,0 +1,4 @@
+pub mod Keeping
+pub mod Keys
+pub mod Memory
+pub mod Rows
