@@ -5,6 +5,8 @@
 #![tactic(auto)]
 
 mod no_memory;
+#[cfg(test)]
+mod plain;
 mod queue;
 mod queues;
 #[cfg(test)]

@@ -14,10 +14,10 @@ before_all x y e a b = grind (arith, nat_tests)
 none_trans : (x y e : Entry) → is_before y x ≡ false → is_before x e ≡ false → is_before y e ≡ false
 none_trans x y e a b = grind (arith, nat_tests)
 
-before_not_same : (x e : Entry) → is_before x e ≡ true → is_same x e ≡ false
+pub before_not_same : (x e : Entry) → is_before x e ≡ true → is_same x e ≡ false
 before_not_same x e a = grind (arith, nat_tests)
 
-before_back : (x e : Entry) → is_before x e ≡ true → is_before e x ≡ false
+pub before_back : (x e : Entry) → is_before x e ≡ true → is_before e x ≡ false
 before_back x e a = grind (arith, nat_tests)
 
 next_after : (x e : Entry) → is_before x e ≡ false → is_same x e ≡ false → is_before e x ≡ true

@@ -4,6 +4,7 @@
 #![tactic(auto)]
 
 mod entry;
+pub mod laws;
 mod no_memory;
 mod sorted;
 mod steps;
