@@ -1,0 +1,5 @@
+pub mod DelayLemmas
+pub mod DueLemmas
+pub mod NumberLemmas
+pub mod RunLemmas
+pub mod SumLemmas

@@ -1,0 +1,4 @@
+pub mod DateLemmas
+pub mod DueLemmas
+pub mod LeastLemmas
+pub mod MarkLemmas

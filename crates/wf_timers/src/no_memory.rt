@@ -1,0 +1,25 @@
+//! The answer that there was no memory.
+
+use std::alloc::{AllocError, AllocFailed};
+
+/// The memory that the call needed wasn't there.
+#[derive(Clone, Copy, Debug, PartialEq, Eq)]
+pub struct NoMemory;
+
+impl From<AllocError> for NoMemory {
+    fn from(_refused: AllocError) -> NoMemory {
+        NoMemory
+    }
+}
+
+impl<T: Drop> From<AllocFailed<T>> for NoMemory {
+    fn from(_refused: AllocFailed<T>) -> NoMemory {
+        NoMemory
+    }
+}
+
+impl From<wf_sorted::NoMemory> for NoMemory {
+    fn from(_refused: wf_sorted::NoMemory) -> NoMemory {
+        NoMemory
+    }
+}

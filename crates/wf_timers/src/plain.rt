@@ -1,0 +1,85 @@
+//! The same calls over plain lists: each is scanned from its front, in no order.
+
+ghost use Rattle.std.specs.Prelude.{◌≡◌, ℕ, ◌==◌, ◌||◌, ◌&&◌, not, if◌then◌else◌, [], OnOk};
+ghost use Rattle.wf_timers.specs.Agenda.{IsLeastDue, deadline_of, is_marked, without_deadline, without_mark};
+
+use crate::no_memory::NoMemory;
+use std::alloc::Global;
+use std::marker::Model;
+use wf_sorted::Entry;
+
+#[derive(Drop)]
+pub(crate) struct PlainAgenda {
+    marks: Vec<u64>,
+    deadlines: Vec<Entry>,
+}
+
+impl Model for PlainAgenda {
+    ghost use Rattle.wf_timers.specs.Agenda.{Planned};
+
+    ghost Value = { Planned };
+
+    ghost view = { λ a. record { marks = a.marks.items; deadlines = a.deadlines.items; spare = 0 } };
+}
+
+impl PlainAgenda {
+    pub(crate) fn new(alloc: Global) -> PlainAgenda
+        ensures marks { result.marks ≡ [] }
+        ensures deadlines { result.deadlines ≡ [] }
+    {
+        PlainAgenda {
+            marks: Vec::new(alloc),
+            deadlines: Vec::new(alloc),
+        }
+    }
+
+    pub(crate) fn mark(&mut self, number: u64) -> Result<(), NoMemory>
+        ensures marked { OnOk result ((n : ℕ) → is_marked n self.new.marks ≡ ((number == n) || is_marked n self.old.marks)) }
+        ensures deadlines { self.new.deadlines ≡ self.old.deadlines }
+    {
+        self.marks.push(number)?;
+        Ok(())
+    }
+
+    pub(crate) fn unmark(&mut self, number: u64)
+        ensures marks { self.new.marks ≡ without_mark number self.old.marks }
+        ensures deadlines { self.new.deadlines ≡ self.old.deadlines }
+    {
+        self.marks.retain(|mark| *mark != number);
+    }
+
+    pub(crate) fn set_deadline(
+        &mut self,
+        number: u64,
+        deadline: Option<u64>,
+    ) -> Result<(), NoMemory>
+        ensures each { OnOk result ((n : ℕ) → deadline_of n self.new.deadlines ≡ (if number == n then deadline else deadline_of n self.old.deadlines)) }
+        ensures marks { self.new.marks ≡ self.old.marks }
+    {
+        self.deadlines.retain(|entry| entry.number != number);
+        if let Some(moment) = deadline {
+            self.deadlines.insert(0, Entry { moment, number })?;
+        }
+        Ok(())
+    }
+
+    pub(crate) fn least_due(&self, moment: u64) -> Option<u64> {
+        let mut least = None;
+        for mark in &self.marks {
+            least = lesser(*mark, least);
+        }
+        for entry in &self.deadlines {
+            if entry.moment <= moment {
+                least = lesser(entry.number, least);
+            }
+        }
+        least
+    }
+}
+
+fn lesser(number: u64, other: Option<u64>) -> Option<u64> {
+    match other {
+        Some(other) if other < number => Some(other),
+        _ => Some(number),
+    }
+}
