@@ -8,10 +8,10 @@ use Rattle.wf_sorted.specs.Order.{is_before, is_same, NoneBefore, Rising, holds,
 
 -- ---- the order of three entries
 
-before_all : (x y e : Entry) → is_before y x ≡ false → is_before y e ≡ true → is_before x e ≡ true
+pub before_all : (x y e : Entry) → is_before y x ≡ false → is_before y e ≡ true → is_before x e ≡ true
 before_all x y e a b = grind (arith, nat_tests)
 
-none_trans : (x y e : Entry) → is_before y x ≡ false → is_before x e ≡ false → is_before y e ≡ false
+pub none_trans : (x y e : Entry) → is_before y x ≡ false → is_before x e ≡ false → is_before y e ≡ false
 none_trans x y e a b = grind (arith, nat_tests)
 
 pub before_not_same : (x e : Entry) → is_before x e ≡ true → is_same x e ≡ false
@@ -20,7 +20,7 @@ before_not_same x e a = grind (arith, nat_tests)
 pub before_back : (x e : Entry) → is_before x e ≡ true → is_before e x ≡ false
 before_back x e a = grind (arith, nat_tests)
 
-next_after : (x e : Entry) → is_before x e ≡ false → is_same x e ≡ false → is_before e x ≡ true
+pub next_after : (x e : Entry) → is_before x e ≡ false → is_same x e ≡ false → is_before e x ≡ true
 next_after x e a b = grind (arith, nat_tests)
 
 later_not_same : (x y e : Entry) → is_before e x ≡ true → is_before y x ≡ false → is_same y e ≡ false
@@ -28,7 +28,7 @@ later_not_same x y e a b = grind (arith, nat_tests)
 
 -- ---- the search
 
-none_at : (x : Entry) (xs : List Entry) (j : ℕ) (d : Entry) → NoneBefore x xs → j < length xs → is_before (get_or xs j d) x ≡ false
+pub none_at : (x : Entry) (xs : List Entry) (j : ℕ) (d : Entry) → NoneBefore x xs → j < length xs → is_before (get_or xs j d) x ≡ false
 none_at x [] j d none within = absurd (omega arith)
 none_at x (y ∷ ys) zero d none within = none.0
 none_at x (y ∷ ys) (suc j) d none within = none_at x ys j d none.1 (omega arith)
@@ -101,7 +101,7 @@ found_at e d (x ∷ xs) (suc i) at within same =
     let other : is_same x e ≡ false = before_not_same x e (at.below 0 x (omega arith)) in
     record { there = rw other rest.there; left = rw other (ap (λ ys. x ∷ ys) rest.left) }
 
-none_later : (e x : Entry) (xs : List Entry) → is_before e x ≡ true → NoneBefore x xs → holds e xs ≡ false
+pub none_later : (e x : Entry) (xs : List Entry) → is_before e x ≡ true → NoneBefore x xs → holds e xs ≡ false
 none_later e x [] before none = refl
 none_later e x (y ∷ ys) before none = rw (later_not_same x y e before none.0) (none_later e x ys before none.1)
 

@@ -11,7 +11,7 @@ same_moment a b p q = grind (arith, nat_tests)
 same_number : (a b : Entry) → is_before a b ≡ false → is_before b a ≡ false → a.number ≡ b.number
 same_number a b p q = grind (arith, nat_tests)
 
-same_entry : (a b : Entry) → is_before a b ≡ false → is_before b a ≡ false → a ≡ b
+pub same_entry : (a b : Entry) → is_before a b ≡ false → is_before b a ≡ false → a ≡ b
 same_entry a b p q =
     let at : ℕ → Entry = λ m. record { moment = m; number = a.number } in
     let numbered : ℕ → Entry = λ n. record { moment = b.moment; number = n } in

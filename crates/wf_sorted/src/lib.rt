@@ -3,9 +3,12 @@
 //! Contracts see the entries in their order, and the spare room as a number. Adding takes no memory.
 #![tactic(auto)]
 
+mod block;
+mod blocks;
 mod entry;
 pub mod laws;
 mod no_memory;
+mod pool;
 mod sorted;
 mod steps;
 #[cfg(test)]

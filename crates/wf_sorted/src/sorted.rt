@@ -1,34 +1,40 @@
 //! The sorted list.
 
-ghost use Rattle.std.specs.Prelude.{◌≡◌, [], ◌+◌, ◌<◌, ◌≤◌, OnOk, IfNone, IfSome, is_some, length, slice_get, true, false};
-ghost use Rattle.std.specs.List.{insert, remove};
-ghost use Rattle.std.specs.List.Sorted.{IsPartitionPoint};
-ghost use Rattle.std.specs.Vec.{vec_capacity, vec_len};
-ghost use Rattle.wf_sorted.specs.Order.{Rising, is_before, holds, put, without};
+ghost use Rattle.std.specs.Prelude.{◌≡◌, [], ◌+◌, ◌<◌, ◌≤◌, OnOk, length, slice_get};
+ghost use Rattle.wf_sorted.specs.Order.{Rising, holds, put, without};
 
+use crate::block::Block;
+use crate::blocks;
 use crate::entry::Entry;
 use crate::no_memory::NoMemory;
+use crate::pool::Pool;
 use crate::steps::Steps;
 use std::alloc::Global;
 use std::marker::Model;
 use std::sync::ledger::Ledger;
 
 /// Entries in their order, and room for more.
+///
+/// They stand in blocks of at most 128, so that putting one in or taking one out moves the entries of its block
+/// alone.
 #[derive(Drop)]
 pub struct Sorted {
-    items: Vec<Entry>,
+    blocks: Vec<Block>,
+    pool: Pool,
+    count: usize,
 }
 
 impl Model for Sorted {
-    ghost use Rattle.std.specs.Prelude.{◌-◌};
+    ghost use Rattle.std.specs.Prelude.{◌≡◌, ◌-◌, ◌^◌, ◌<◌, length, min};
     ghost use Rattle.std.specs.Vec.{vec_capacity, vec_len};
-    ghost use Rattle.wf_sorted.specs.Order.{SortedRoom, Rising};
+    ghost use Rattle.wf_sorted.specs.Blocks.{AreBlocks, entries_of};
+    ghost use Rattle.wf_sorted.specs.Order.{SortedRoom};
 
     ghost Value = { SortedRoom };
 
-    ghost view = { λ s. record { entries = s.items.items; spare = vec_capacity s.items - vec_len s.items } };
+    ghost view = { λ s. record { entries = entries_of s.blocks.items; spare = min (2 ^ 64 - 1 - s.count) (min s.pool (vec_capacity s.blocks - vec_len s.blocks)) } };
 
-    ghost invariant = { λ s. Rising s.items.items };
+    ghost invariant = { λ s. AreBlocks s.blocks.items × (s.count ≡ length (entries_of s.blocks.items)) };
 }
 
 impl Sorted {
@@ -37,7 +43,9 @@ impl Sorted {
         ensures { result.entries ≡ [] }
     {
         Sorted {
-            items: Vec::new(alloc),
+            blocks: Vec::new(alloc),
+            pool: Pool::new(alloc),
+            count: 0,
         }
     }
 
@@ -45,7 +53,7 @@ impl Sorted {
     pub fn len(&self) -> usize
         ensures { result ≡ length self.now.entries }
     {
-        self.items.len()
+        self.count
     }
 
     /// The entry at that place of the order, from 0: one look.
@@ -55,7 +63,7 @@ impl Sorted {
         ensures cost { steps.new ≡ steps.old + 1 }
     {
         steps.tick();
-        self.items.get(place).copied()
+        blocks::entry_at(&self.blocks, place)
     }
 
     /// Makes room for that many more. Where memory is wanting the entries stay, and so does the room.
@@ -64,7 +72,12 @@ impl Sorted {
         ensures room { OnOk result (more ≤ self.new.spare) }
         ensures kept { self.old.spare ≤ self.new.spare }
     {
-        self.items.reserve(more as usize)?;
+        let more = more as usize;
+        if more > usize::MAX - self.count {
+            return Err(NoMemory);
+        }
+        self.blocks.reserve(more)?;
+        self.pool.fill(more)?;
         Ok(())
     }
 
@@ -74,8 +87,8 @@ impl Sorted {
         ensures entries { self.new.entries ≡ put entry self.old.entries }
         ensures room { self.old.spare ≤ self.new.spare + 1 }
     {
-        let place = place_in(&self.items, entry);
-        insert_at(&mut self.items, place, entry);
+        blocks::add(&mut self.blocks, &mut self.pool, entry);
+        self.count += 1;
     }
 
     /// Takes the entry out once, and tells whether it was there.
@@ -84,45 +97,10 @@ impl Sorted {
         ensures entries { self.new.entries ≡ without entry self.old.entries }
         ensures room { self.old.spare ≤ self.new.spare }
     {
-        let Some(place) = place_of(&self.items, entry) else {
-            return false;
-        };
-        self.items.remove(place);
-        true
+        let there = blocks::take_out(&mut self.blocks, &mut self.pool, entry);
+        if there {
+            self.count -= 1;
+        }
+        there
     }
-}
-
-/// The place before which all entries come before this one; it is searched by halves.
-fn place_in(items: &[Entry], entry: Entry) -> usize
-    requires { Rising items.now }
-    ensures bound { result ≤ length items.now }
-    ensures parted { IsPartitionPoint (λ x. is_before x entry ≡ true) (λ x. is_before x entry ≡ false) items.now result }
-{
-    items.partition_point(|item| item.is_before(entry))
-}
-
-/// The place of the entry, where it is there.
-fn place_of(items: &[Entry], entry: Entry) -> Option<usize>
-    requires { Rising items.now }
-    ensures there { is_some result ≡ holds entry items.now }
-    ensures none { IfNone result (without entry items.now ≡ items.now) }
-    ensures some { IfSome result (λ place. (place < length items.now) × (without entry items.now ≡ remove items.now place)) }
-{
-    let place = place_in(items, entry);
-    if place < items.len() && items[place].is_same(entry) {
-        Some(place)
-    } else {
-        None
-    }
-}
-
-/// Inserts the entry into spare room.
-fn insert_at(items: &mut Vec<Entry>, place: usize, entry: Entry)
-    requires place { place ≤ vec_len items.old }
-    requires room { vec_len items.old < vec_capacity items.old }
-    ensures items { items.new.items ≡ insert items.old.items place entry }
-    ensures len { vec_len items.new ≡ vec_len items.old + 1 }
-    ensures capacity { vec_capacity items.old ≤ vec_capacity items.new }
-{
-    let _ = items.insert(place, entry);
 }

@@ -8,7 +8,7 @@ use Rattle.wf_sorted.specs.declared.entry.Entry.{Entry}
 use Rattle.wf_sorted.specs.Order.{put, without}
 use Rattle.wf_sorted.proofs.PutLemmas.{puts_commute, without_put}
 use Rattle.wf_timers.specs.Agenda.{deadline_of, put_deadline, with_deadline, without_deadline}
-use Rattle.wf_timers.specs.Kept.{RiseFrom, ordered}
+use Rattle.wf_timers.specs.Kept.{EachOnce, RiseFrom, ordered}
 
 is_number : (x n : ℕ) → (x == n) ≡ true → x ≡ n
 is_number x n h = grind (arith, nat_tests)
@@ -209,3 +209,20 @@ of_front n x moment ds = front (x == n) refl (of_without n x ds)
         → option_map (λ (d : Entry). d.moment) (cond p (Some (record { moment = moment; number = x })) (find (λ (d : Entry). d.number == n) (without_deadline x ds))) ≡ (if p then Some moment else deadline_of n ds)
     front true is rest = refl
     front false is rest = rw is at rest
+
+-- ---- no number twice
+
+pub once_without : (n : ℕ) (ds : List Entry) → EachOnce ds → EachOnce (without_deadline n ds)
+once_without n [] once = tt
+once_without n (d ∷ ds) once =
+    elim (d.number == n) as (λ p. EachOnce (cond (not p) (d ∷ without_deadline n ds) (without_deadline n ds))) [
+      | true ↦ once_without n ds once.1
+      | false ↦ (of_without d.number n ds ∙ both (n == d.number), once_without n ds once.1)
+    ]
+  where
+    both : (p : Bool) → (if p then None else deadline_of d.number ds) ≡ None
+    both true = refl
+    both false = once.0
+
+pub once_front : (n moment : ℕ) (ds : List Entry) → EachOnce ds → EachOnce (record { moment = moment; number = n } ∷ without_deadline n ds)
+once_front n moment ds once = (gone_without n ds, once_without n ds once)

@@ -7,7 +7,7 @@ use Rattle.std.specs.List.{find}
 use Rattle.wf_sorted.specs.declared.entry.Entry.{Entry}
 use Rattle.wf_sorted.specs.Order.{passed}
 use Rattle.wf_timers.specs.Agenda.{IsLeastDue, Planned, deadline_of, has_passed, is_due, is_marked}
-use Rattle.wf_timers.specs.Kept.{RiseFrom, least_number, least_passed, lesser_of, numbers_of}
+use Rattle.wf_timers.specs.Kept.{EachOnce, RiseFrom, least_number, least_passed, lesser_of, numbers_of}
 
 -- ---- the least of a list of numbers
 
@@ -71,33 +71,39 @@ none_above low n (d ∷ ds) rise above =
 is_number : (x n : ℕ) → (x == n) ≡ true → x ≡ n
 is_number x n h = grind (arith, nat_tests)
 
-passed_is : (moment low n : ℕ) (ds : List Entry) → RiseFrom low ds → is_marked n (numbers_of (passed moment ds)) ≡ has_passed moment (deadline_of n ds)
-passed_is moment low n [] rise = refl
-passed_is moment low n (d ∷ ds) rise = cases (d.number == n) (leb d.moment moment) refl refl (passed_is moment (d.number + 1) n ds rise.1)
+pub once_rising : (low : ℕ) (ds : List Entry) → RiseFrom low ds → EachOnce ds
+once_rising low [] rise = tt
+once_rising low (d ∷ ds) rise = (none_above (d.number + 1) d.number ds rise.1 (omega arith), once_rising (d.number + 1) ds rise.1)
+
+passed_is : (moment n : ℕ) (ds : List Entry) → EachOnce ds → is_marked n (numbers_of (passed moment ds)) ≡ has_passed moment (deadline_of n ds)
+passed_is moment n [] once = refl
+passed_is moment n (d ∷ ds) once = cases (d.number == n) (leb d.moment moment) refl refl (passed_is moment n ds once.1)
   where
     cases : (p q : Bool) → (d.number == n) ≡ p → leb d.moment moment ≡ q
         → is_marked n (numbers_of (passed moment ds)) ≡ has_passed moment (deadline_of n ds)
         → is_marked n (numbers_of (if q then d ∷ passed moment ds else passed moment ds)) ≡ has_passed moment (option_map (λ (e : Entry). e.moment) (cond p (Some d) (find (λ (e : Entry). e.number == n) ds)))
     cases true true is due rest = rw (is, due) refl
-    cases true false is due rest = rw due (rest ∙ ap (has_passed moment) (none_above (d.number + 1) n ds rise.1 (omega (arith, is_number d.number n is))))
+    cases true false is due rest =
+        let none : deadline_of n ds ≡ None = ap (λ m. deadline_of m ds) (sym (is_number d.number n is)) ∙ once.0 in
+        rw due (rest ∙ ap (has_passed moment) none)
     cases false true is due rest = rw is rest
     cases false false is due rest = rest
 
 -- ---- both
 
-due_is : (moment n : ℕ) (planned : Planned) → RiseFrom 0 planned.deadlines
+due_is : (moment n : ℕ) (planned : Planned) → EachOnce planned.deadlines
     → is_due moment n planned ≡ is_marked n (planned.marks ++ numbers_of (passed moment planned.deadlines))
-due_is moment n planned rise =
-    sym (marked_both n planned.marks (numbers_of (passed moment planned.deadlines)) ∙ ap (λ q. is_marked n planned.marks || q) (passed_is moment 0 n planned.deadlines rise))
+due_is moment n planned once =
+    sym (marked_both n planned.marks (numbers_of (passed moment planned.deadlines)) ∙ ap (λ q. is_marked n planned.marks || q) (passed_is moment n planned.deadlines once))
 
-turned : (moment : ℕ) (planned : Planned) (least : Option ℕ) → RiseFrom 0 planned.deadlines
+turned : (moment : ℕ) (planned : Planned) (least : Option ℕ) → EachOnce planned.deadlines
     → IsLeastOf (planned.marks ++ numbers_of (passed moment planned.deadlines)) least → IsLeastDue moment planned least
-turned moment planned None rise none = λ n. due_is moment n planned rise ∙ none n
-turned moment planned (Some least) rise is =
-    (due_is moment least planned rise ∙ is.0, λ n less. due_is moment n planned rise ∙ is.1 n less)
+turned moment planned None once none = λ n. due_is moment n planned once ∙ none n
+turned moment planned (Some least) once is =
+    (due_is moment least planned once ∙ is.0, λ n less. due_is moment n planned once ∙ is.1 n less)
 
-pub least_due : (moment : ℕ) (planned : Planned) → RiseFrom 0 planned.deadlines
+pub least_due : (moment : ℕ) (planned : Planned) → EachOnce planned.deadlines
     → IsLeastDue moment planned (lesser_of (least_number planned.marks) (least_passed moment planned.deadlines))
-least_due moment planned rise =
+least_due moment planned once =
     subst (IsLeastDue moment planned) (least_both planned.marks (numbers_of (passed moment planned.deadlines)))
-    (turned moment planned (least_number (planned.marks ++ numbers_of (passed moment planned.deadlines))) rise (least_is (planned.marks ++ numbers_of (passed moment planned.deadlines))))
+    (turned moment planned (least_number (planned.marks ++ numbers_of (passed moment planned.deadlines))) once (least_is (planned.marks ++ numbers_of (passed moment planned.deadlines))))

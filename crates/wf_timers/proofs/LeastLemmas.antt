@@ -23,6 +23,16 @@ through : (first : Option ℕ) (n : ℕ) (o : Option ℕ) → lesser_of first (l
 through None n o = refl
 through (Some m) n o = swapped m n o
 
+-- a number is taken into the least so far
+pub taken_in : (least : Option ℕ) (n : ℕ) (rest : Option ℕ) → lesser_of least (lesser_of (Some n) rest) ≡ lesser_of (lesser_of (Some n) least) rest
+taken_in None n rest = refl
+taken_in (Some m) n None = ap Some (omega arith)
+taken_in (Some m) n (Some k) = ap Some (omega arith)
+
+pub lesser_of_none : (least : Option ℕ) → lesser_of least None ≡ least
+lesser_of_none None = refl
+lesser_of_none (Some n) = refl
+
 -- ---- one entry more
 
 -- the least of the first number and the entries in front of that place, all of which have passed
@@ -111,10 +121,10 @@ looked_at first moment es place least is within =
 
 -- ---- the same over the entries by number
 
-abbrev weigh : ℕ → Entry → Option ℕ → Option ℕ
+abbrev pub weigh : ℕ → Entry → Option ℕ → Option ℕ
 weigh moment e o = if leb e.moment moment then lesser_of (Some e.number) o else o
 
-weighed : (moment : ℕ) (e : Entry) (es : List Entry) → least_passed moment (e ∷ es) ≡ weigh moment e (least_passed moment es)
+pub weighed : (moment : ℕ) (e : Entry) (es : List Entry) → least_passed moment (e ∷ es) ≡ weigh moment e (least_passed moment es)
 weighed moment e es =
     elim (leb e.moment moment) as (λ p. least_number (numbers_of (if p then e ∷ passed moment es else passed moment es)) ≡ (if p then lesser_of (Some e.number) (least_passed moment es) else least_passed moment es)) [
       | true ↦ refl

@@ -2,6 +2,7 @@
 use Rattle.std.specs.Prelude.{◌≡◌, ℕ, ◌+◌, ◌≤◌, min, List, [], ◌∷◌, map, Option, None, Some}
 use Rattle.wf_sorted.specs.declared.entry.Entry.{Entry}
 use Rattle.wf_sorted.specs.Order.{passed, put}
+use Rattle.wf_timers.specs.Agenda.{deadline_of}
 
 -- numbers with a mark, and how many more have room
 pub record Marked : Type 0 where
@@ -29,6 +30,11 @@ AreMarks low (e ∷ rest) = (e.moment ≡ 0) × (low ≤ e.number) × AreMarks (
 abbrev pub RiseFrom : ℕ → List Entry → Type 0
 RiseFrom low [] = Unit {0}
 RiseFrom low (e ∷ rest) = (low ≤ e.number) × RiseFrom (e.number + 1) rest
+
+-- no number has two deadlines
+abbrev pub EachOnce : List Entry → Type 0
+EachOnce [] = Unit {0}
+EachOnce (e ∷ rest) = (deadline_of e.number rest ≡ None) × EachOnce rest
 
 -- the same entries by their moments
 abbrev pub ordered : List Entry → List Entry

@@ -1,7 +1,8 @@
 //! The same calls over plain lists: each is scanned from its front, in no order.
 
-ghost use Rattle.std.specs.Prelude.{◌≡◌, ℕ, ◌==◌, ◌||◌, ◌&&◌, not, if◌then◌else◌, [], OnOk};
-ghost use Rattle.wf_timers.specs.Agenda.{IsLeastDue, deadline_of, is_marked, without_deadline, without_mark};
+ghost use Rattle.std.specs.Prelude.{◌≡◌, ℕ, ◌==◌, ◌||◌, if◌then◌else◌, [], OnOk, Some};
+ghost use Rattle.wf_timers.specs.Agenda.{IsLeastDue, deadline_of, is_marked, without_mark};
+ghost use Rattle.wf_timers.specs.Kept.{least_number, least_passed, lesser_of};
 
 use crate::no_memory::NoMemory;
 use std::alloc::Global;
@@ -19,7 +20,11 @@ impl Model for PlainAgenda {
 
     ghost Value = { Planned };
 
+    ghost use Rattle.wf_timers.specs.Kept.{EachOnce};
+
     ghost view = { λ a. record { marks = a.marks.items; deadlines = a.deadlines.items; spare = 0 } };
+
+    ghost invariant = { λ a. EachOnce a.deadlines.items };
 }
 
 impl PlainAgenda {
@@ -63,21 +68,40 @@ impl PlainAgenda {
         Ok(())
     }
 
-    pub(crate) fn least_due(&self, moment: u64) -> Option<u64> {
-        let mut least = None;
-        for mark in &self.marks {
-            least = lesser(*mark, least);
-        }
-        for entry in &self.deadlines {
-            if entry.moment <= moment {
-                least = lesser(entry.number, least);
-            }
-        }
-        least
+    pub(crate) fn least_due(&self, moment: u64) -> Option<u64>
+        ensures value { IsLeastDue moment self.now result }
+    {
+        let marked = least_mark(&self.marks);
+        lesser_passed(&self.deadlines, marked, moment)
     }
 }
 
-fn lesser(number: u64, other: Option<u64>) -> Option<u64> {
+fn least_mark(marks: &[u64]) -> Option<u64>
+    ensures { result ≡ least_number marks.now }
+{
+    let mut least = None;
+    for mark in marks {
+        least = lesser(*mark, least);
+    }
+    least
+}
+
+/// The least of the first number and of all whose deadline has passed.
+fn lesser_passed(deadlines: &[Entry], first: Option<u64>, moment: u64) -> Option<u64>
+    ensures { result ≡ lesser_of first (least_passed moment deadlines.now) }
+{
+    let mut least = first;
+    for entry in deadlines {
+        if entry.moment <= moment {
+            least = lesser(entry.number, least);
+        }
+    }
+    least
+}
+
+fn lesser(number: u64, other: Option<u64>) -> Option<u64>
+    ensures { result ≡ lesser_of (Some number) other }
+{
     match other {
         Some(other) if other < number => Some(other),
         _ => Some(number),

@@ -1,15 +1,8 @@
-use Rattle.std.proofs.Common.{◌≡◌, ◌∙◌, sym, subst}
-use Rattle.wf_sorted.specs.Order.{Rising, put}
-use Rattle.wf_sorted.proofs.OrderLemmas.{is_place, put_at, rising_put}
+use Rattle.std.proofs.Common.{length, ap, arith}
+use Rattle.wf_sorted.specs.Blocks.{entries_of}
+use Rattle.wf_sorted.proofs.AppendLemmas.{length_put}
 use Rattle.wf_sorted.proofs.sorted.Sorted.add.Goals as goal
 
-inserted : (c : goal.After-insert_at) → c.insert_at.new.items.items ≡ put c.args.entry c.self.inside.items.items
-inserted c =
-    let place = rw c.deref.ensures.value at (is_place c.args.entry c.deref.result.now c.place_in-place.result c.place_in-place.ensures.bound c.place_in-place.ensures.parted) in
-    c.insert_at.ensures.items ∙ sym (put_at c.args.entry c.self.inside.items.items c.place_in-place.result place)
-
-pub returns-clause-entries : goal.returns-clause-entries
-returns-clause-entries c = rw (← c.self.view_is) (inserted c)
-
 pub invariant_of-self : goal.invariant_of-self
-invariant_of-self c = subst Rising (sym (inserted c)) (rising_put c.args.entry c.self.inside.items.items c.self.invariant)
+invariant_of-self c =
+    (c.add.ensures.blocks, omega (arith, c.self.invariant.1, ap length c.add.ensures.entries, length_put c.args.entry (entries_of c.self.inside.blocks.items)))

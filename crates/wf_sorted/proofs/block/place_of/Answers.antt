@@ -1,8 +1,8 @@
 use Rattle.std.proofs.Common.{◌≡◌, ◌∙◌, sym, arith, false}
 use Rattle.wf_sorted.specs.Order.{holds}
 use Rattle.wf_sorted.proofs.OrderLemmas.{is_place, found_at, missing_at, without_missing}
-use Rattle.wf_sorted.proofs.sorted.place_of.Goals as goal
-use Rattle.wf_sorted.proofs.sorted.place_of.Goals.{else-place-items-via-then-place-items+else-is_same, else-place-items-via-else-place-items}
+use Rattle.wf_sorted.proofs.block.place_of.Goals as goal
+use Rattle.wf_sorted.proofs.block.place_of.Goals.{else-place-items-via-then-place-items+else-is_same, else-place-items-via-else-place-items}
 
 pub returns-then-is_same-clause-there : goal.returns-then-is_same-clause-there
 returns-then-is_same-clause-there c =

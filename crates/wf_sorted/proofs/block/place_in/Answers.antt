@@ -2,7 +2,7 @@ use Rattle.std.proofs.Common.{rules, of_calls}
 use Rattle.std.proofs.lemmas.List.Sorted.{IsPartitionPoint-from_clause}
 use Rattle.wf_sorted.specs.Order.{is_before}
 use Rattle.wf_sorted.proofs.OrderLemmas.{parted_by}
-use Rattle.wf_sorted.proofs.sorted.place_in.Goals as goal
+use Rattle.wf_sorted.proofs.block.place_in.Goals as goal
 
 -- the closure tells whether an entry comes before the one that is sought
 pub returns-clause-parted : goal.returns-clause-parted
