@@ -1,4 +1,3 @@
 pub mod TurnLemmas
 pub mod CompleteLemmas
-pub mod RequestLemmas
 pub mod StandardLemmas

@@ -10,8 +10,10 @@ use Rattle.wf_wire.specs.Request.{Request, closes}
 use Rattle.wf_machine.specs.declared.calling.Reply.{Reply}
 use Rattle.wf_machine.specs.State.{State}
 use Rattle.wf_machine.specs.History.{stored}
-use Rattle.wf_machine.specs.Serving.{Answered, ends_closed, requests, served, wire}
-use Rattle.wf_machine.proofs.ServingLemmas.{legal_more, state_more, wire-more}
+use Rattle.wf_machine.specs.Moments.{moment_at}
+use Rattle.wf_machine.specs.Requests.{call_of}
+use Rattle.wf_machine.specs.Serving.{Answered, IsAsked, ends_closed, moment_after, requests, served, wire}
+use Rattle.wf_machine.proofs.ServingLemmas.{legal_more, moment-more, state_more, wire-more}
 use Rattle.conductor.specs.declared.status.Status.{Status}
 use Rattle.conductor.specs.declared.status.Status.TheVariants.{Done, NoMemory, Usage, ReadFault, WriteFault, BadFrame, Cut, LongInput, TooLarge}
 use Rattle.conductor.specs.declared.batch.Turn.{Turn}
@@ -37,6 +39,13 @@ appends_part old mid new first bytes whole part taken e =
 pub coming_map : (held held' : List ℕ) (left left' : Option (List ℕ)) (P Q : List ℕ → List ℕ → List ℕ → Type 0)
     → ((p rest p' : List ℕ) → P p rest p' → Q p rest p') → Coming held left held' left' P → Coming held left held' left' Q
 coming_map held held' left left' P Q f coming l told = let r = coming l told in (r.0, r.1, f (held ++ l) r.0 (held' ++ r.0) r.2)
+
+pub turn_of_answer : (limits : Limits) (before after o : ℕ) (p left : List ℕ) (o' : ℕ) (p' : List ℕ) (m : Request) (s s' : State) (old new : Option (List ℕ)) (turn : Turn)
+    → after ≡ moment_at before m → IsAnswered limits after s s' m old new turn → IsMessage limits o p m o' p' → IsTurn limits before after o p left o' p' s s' old new turn
+turn_of_answer limits before after o p left o' p' m s s' old new Goes same answered is =
+    (m, (is, (same, subst (λ n. IsAnswered limits n s s' m old new Goes) same answered)))
+turn_of_answer limits before after o p left o' p' m s s' old new (Stops status) same answered is =
+    inl (m, (is, subst (λ n. IsAnswered limits n s s' m old new (Stops status)) same answered))
 
 pub stop_of_next : (limits : Limits) (o : ℕ) (p left : List ℕ) (end : Next) (o' : ℕ) (p' : List ℕ) (old new : Option (List ℕ)) (status : Status)
     → IsStopped end old new status → IsNext limits o p left end o' p' → IsStop limits o p left end
@@ -101,8 +110,8 @@ served-closed (m ∷ ms) rest closed all = closed_at m ms rest (closes m) refl c
 
 -- ---- one more answer
 
-module _ (limits : Limits) (moment : ℕ) (input : List ℕ) (old : Option (List ℕ)) (answered : List Answered) (o : ℕ) (p : List ℕ) (s : State) (mid : Option (List ℕ))
-    (stands : Stands limits moment input old answered o p s mid) where
+module _ (limits : Limits) (moment : ℕ) (input : List ℕ) (old : Option (List ℕ)) (answered : List Answered) (o : ℕ) (p : List ℕ) (s : State) (now : ℕ) (mid : Option (List ℕ))
+    (stands : Stands limits moment input old answered o p s now mid) where
   answer : Request → Option Reply → Answered
   answer m reply = record { request = m; reply = reply }
 
@@ -112,24 +121,30 @@ module _ (limits : Limits) (moment : ℕ) (input : List ℕ) (old : Option (List
         subst (λ ms. Leads limits 0 input ms o' p') (sym (requests-more answered (record { request = m; reply = reply })))
         (leads_more limits 0 o o' input p p' (requests answered) m stands.leads is)
 
+    -- it was asked at its moment
+    asked_here : (s' : State) (reply : Option Reply) → IsAsked limits (moment_at now m) s s' (call_of limits first_mark m) reply
+        → IsAsked limits (moment_at (moment_after moment answered) m) s s' (call_of limits first_mark m) reply
+    asked_here s' reply asked = subst (λ n. IsAsked limits (moment_at n m) s s' (call_of limits first_mark m) reply) (sym stands.in_force) asked
+
     -- the request was asked, and doesn't close
-    pub stands_more : (s' : State) (bytes : List ℕ) (new : Option (List ℕ)) → closes m ≡ false → IsAnswer limits moment s s' m bytes → Appends mid new bytes
-        → (more : List Answered) × Stands limits moment input old more o' p' s' new
+    pub stands_more : (s' : State) (bytes : List ℕ) (new : Option (List ℕ)) → closes m ≡ false → IsAnswer limits (moment_at now m) s s' m bytes → Appends mid new bytes
+        → (more : List Answered) × Stands limits moment input old more o' p' s' (moment_at now m) new
     stands_more s' bytes new open' asked wrote =
         let a : Answered = record { request = m; reply = asked.0 } in (
           answered ++ a ∷ [],
           record {
             leads = leads_here asked.0;
             unclosed = ap ends_closed (requests-more answered a) ∙ closed-more (requests answered) m stands.unclosed ∙ ap (λ b. b || false) open';
-            legal = legal_more limits first_state moment s s' answered m asked.0 stands.legal stands.state asked.1.0;
-            state = state_more limits first_state moment s s' answered m asked.0 stands.legal stands.state asked.1.0;
+            legal = legal_more limits first_state moment s s' answered m asked.0 stands.legal stands.state (asked_here s' asked.0 asked.1.0);
+            state = state_more limits first_state moment s s' answered m asked.0 stands.legal stands.state (asked_here s' asked.0 asked.1.0);
+            in_force = moment-more moment answered a ∙ ap (λ n. moment_at n m) stands.in_force;
             wrote = λ taken e. appends_more old mid new _ _ stands.wrote wrote taken e
                 ∙ ap (λ b. Some (taken ++ b)) (ap (λ b. wire first_mark answered ++ b) asked.1.1 ∙ sym (wire-more first_mark answered m asked.0));
           },
         )
 
     -- the request was asked, and closes
-    run_closed : (s' : State) (bytes left : List ℕ) (new : Option (List ℕ)) → closes m ≡ true → IsAnswer limits moment s s' m bytes → Appends mid new bytes
+    run_closed : (s' : State) (bytes left : List ℕ) (new : Option (List ℕ)) → closes m ≡ true → IsAnswer limits (moment_at now m) s s' m bytes → Appends mid new bytes
         → IsRun limits moment input left old new Done
     run_closed s' bytes left new closing asked wrote =
         let a : Answered = record { request = m; reply = asked.0 } in
@@ -139,7 +154,7 @@ module _ (limits : Limits) (moment : ℕ) (input : List ℕ) (old : Option (List
           p',
           (
             leads_here asked.0,
-            legal_more limits first_state moment s s' answered m asked.0 stands.legal stands.state asked.1.0,
+            legal_more limits first_state moment s s' answered m asked.0 stands.legal stands.state (asked_here s' asked.0 asked.1.0),
             (
               (λ taken e. appends_more old mid new _ _ stands.wrote wrote taken e
                   ∙ ap (λ b. Some (taken ++ b)) (ap (λ b. wire first_mark answered ++ b) asked.1.1 ∙ sym (wire-more first_mark answered m asked.0))),
@@ -152,7 +167,7 @@ module _ (limits : Limits) (moment : ℕ) (input : List ℕ) (old : Option (List
         )
 
     -- of its answer a part was written
-    run_unwritten : (s' : State) (bytes left : List ℕ) (new : Option (List ℕ)) → IsAnswer limits moment s s' m bytes → AppendsPart mid new [] bytes
+    run_unwritten : (s' : State) (bytes left : List ℕ) (new : Option (List ℕ)) → IsAnswer limits (moment_at now m) s s' m bytes → AppendsPart mid new [] bytes
         → IsRun limits moment input left old new WriteFault
     run_unwritten s' bytes left new asked part = (
       answered,
@@ -166,7 +181,7 @@ module _ (limits : Limits) (moment : ℕ) (input : List ℕ) (old : Option (List
           (
             bytes,
             (
-              inl (m, asked.0, o', p', (is, legal_more limits first_state moment s s' answered m asked.0 stands.legal stands.state asked.1.0, asked.1.1)),
+              inl (m, asked.0, o', p', (is, legal_more limits first_state moment s s' answered m asked.0 stands.legal stands.state (asked_here s' asked.0 asked.1.0), asked.1.1)),
               appends_part old mid new _ bytes stands.wrote part,
             ),
           ),
@@ -174,7 +189,7 @@ module _ (limits : Limits) (moment : ℕ) (input : List ℕ) (old : Option (List
       ),
     )
 
-    run_answered : (s' : State) (left : List ℕ) (new : Option (List ℕ)) (status : Status) → IsAnswered limits moment s s' m mid new (Stops status)
+    run_answered : (s' : State) (left : List ℕ) (new : Option (List ℕ)) (status : Status) → IsAnswered limits (moment_at now m) s s' m mid new (Stops status)
         → IsRun limits moment input left old new status
     run_answered s' left new Done x = run_closed s' x.1.0 left new x.0 x.1.1.0 x.1.1.1
     run_answered s' left new WriteFault x = run_unwritten s' x.0 left new x.1.0 x.1.1
@@ -223,15 +238,15 @@ module _ (limits : Limits) (moment : ℕ) (input : List ℕ) (old : Option (List
   run_stopped next.NoMemory left new status is x = named left new status NoMemory x.0 (stands.unclosed, quiet new x.1)
 
   -- the run stops
-  pub run_stops : (o' : ℕ) (p' left : List ℕ) (s' : State) (new : Option (List ℕ)) (status : Status)
-      → IsTurn limits moment o p left o' p' s s' mid new (Stops status) → IsRun limits moment input left old new status
-  run_stops o' p' left s' new status (inl x) = run_answered x.0 o' p' x.1.0 s' left new status x.1.1
-  run_stops o' p' left s' new status (inr x) = run_stopped x.0 left new status x.1.0 x.1.1
+  pub run_stops : (after o' : ℕ) (p' left : List ℕ) (s' : State) (new : Option (List ℕ)) (status : Status)
+      → IsTurn limits now after o p left o' p' s s' mid new (Stops status) → IsRun limits moment input left old new status
+  run_stops after o' p' left s' new status (inl x) = run_answered x.0 o' p' x.1.0 s' left new status x.1.1
+  run_stops after o' p' left s' new status (inr x) = run_stopped x.0 left new status x.1.0 x.1.1
 
 -- ---- where the source tells its bytes
 
 module _ (limits : Limits) (moment : ℕ) (told : Option (List ℕ)) (old : Option (List ℕ)) where
-  pub over_start : (o : ℕ) (held : List ℕ) (s : State) → o ≡ 0 → held ≡ [] → s ≡ first_state → StandsOver limits moment told old o held told s old
+  pub over_start : (o : ℕ) (held : List ℕ) (s : State) → o ≡ 0 → held ≡ [] → s ≡ first_state → StandsOver limits moment told old o held told s moment old
   over_start o held s at_start empty fresh input tells = (
     input,
     (
@@ -243,35 +258,42 @@ module _ (limits : Limits) (moment : ℕ) (told : Option (List ℕ)) (old : Opti
           unclosed = refl;
           legal = record { calls = refl; replies = refl };
           state = ap stored (sym fresh);
+          in_force = refl;
           wrote = λ taken e. e ∙ ap Some (sym (append-nil taken));
         },
       ),
     ),
   )
 
-  module _ (o : ℕ) (held : List ℕ) (left : Option (List ℕ)) (s : State) (mid : Option (List ℕ)) (so : StandsOver limits moment told old o held left s mid)
-      (o' : ℕ) (held' : List ℕ) (left' : Option (List ℕ)) (s' : State) (new : Option (List ℕ)) (limits' : Limits) (same : limits' ≡ limits) where
+  module _ (o : ℕ) (held : List ℕ) (left : Option (List ℕ)) (s : State) (now : ℕ) (mid : Option (List ℕ)) (so : StandsOver limits moment told old o held left s now mid)
+      (after o' : ℕ) (held' : List ℕ) (left' : Option (List ℕ)) (s' : State) (new : Option (List ℕ)) (limits' : Limits) (same : limits' ≡ limits) where
     abbrev turns : Limits → Turn → Type 0
-    turns L turn = Coming held left held' left' (λ p rest p'. IsTurn L moment o p rest o' p' s s' mid new turn)
+    turns L turn = Coming held left held' left' (λ p rest p'. IsTurn L now after o p rest o' p' s s' mid new turn)
 
     -- another request was answered
-    pub over_more : turns limits' Goes → StandsOver limits moment told old o' held' left' s' new
+    pub over_more : turns limits' Goes → StandsOver limits moment told old o' held' left' s' after new
     over_more turn input tells =
         let x = so input tells in
         let y = subst (λ L. turns L Goes) same turn x.0 x.1.0 in
-        let t = y.2 in
-        (y.0, (y.1, stands_more limits moment input old x.1.1.0 o (held ++ x.0) s mid x.1.1.1 t.0 o' (held' ++ y.0) t.1.0 s' t.1.1.1.0 new t.1.1.0 t.1.1.1.1.0 t.1.1.1.1.1))
+        let t = y.2 in (
+          y.0,
+          (
+            y.1,
+            subst (λ n. (more : List Answered) × Stands limits moment input old more o' (held' ++ y.0) s' n new) (sym t.1.1.0)
+                (stands_more limits moment input old x.1.1.0 o (held ++ x.0) s now mid x.1.1.1 t.0 o' (held' ++ y.0) t.1.0 s' t.1.1.1.1.0 new t.1.1.1.0 t.1.1.1.1.1.0 t.1.1.1.1.1.1),
+          ),
+        )
 
     -- the run stops
     pub over_stops : (status : Status) → turns limits' (Stops status) → RunsOver limits moment told left' old new status
     over_stops status turn input tells =
         let x = so input tells in
         let y = subst (λ L. turns L (Stops status)) same turn x.0 x.1.0 in
-        (y.0, (y.1, run_stops limits moment input old x.1.1.0 o (held ++ x.0) s mid x.1.1.1 o' (held' ++ y.0) y.0 s' new status y.2))
+        (y.0, (y.1, run_stops limits moment input old x.1.1.0 o (held ++ x.0) s now mid x.1.1.1 after o' (held' ++ y.0) y.0 s' new status y.2))
 
   -- the run is given up for want of memory
-  pub over_starved : (o : ℕ) (held : List ℕ) (left : Option (List ℕ)) (s : State) (new : Option (List ℕ)) → StandsOver limits moment told old o held left s new
+  pub over_starved : (o : ℕ) (held : List ℕ) (left : Option (List ℕ)) (s : State) (now : ℕ) (new : Option (List ℕ)) → StandsOver limits moment told old o held left s now new
       → RunsOver limits moment told left old new NoMemory
-  over_starved o held left s new so input tells =
+  over_starved o held left s now new so input tells =
       let x = so input tells in
       (x.0, (x.1.0, (x.1.1.0, o, held ++ x.0, (x.1.1.1.leads, x.1.1.1.legal, (x.1.1.1.unclosed, x.1.1.1.wrote)))))

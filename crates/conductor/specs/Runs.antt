@@ -1,5 +1,5 @@
 -- What a run over an input of requests leaves: the bytes that it wrote, and the status that it ended with.
-use Rattle.std.specs.Prelude.{◌≡◌, ◌≢◌, ◌⊎◌, ℕ, ◌-◌, ◌^◌, min, true, false, List, [], ◌∷◌, ◌++◌, Option, Some}
+use Rattle.std.specs.Prelude.{◌≡◌, ◌≢◌, ◌⊎◌, ℕ, ◌^◌, min, true, false, List, [], ◌∷◌, ◌++◌, Option, Some}
 use Rattle.wf_wire.specs.declared.limits.Limits.{Limits}
 use Rattle.wf_wire.specs.declared.inbox.Next.{Next}
 use Rattle.wf_wire.specs.declared.inbox.Next.TheVariants as next
@@ -7,6 +7,7 @@ use Rattle.wf_wire.specs.Items.{IsMessage, IsEnd, IsStop, Leads, IsItems}
 use Rattle.wf_wire.specs.Request.{Request}
 use Rattle.wf_machine.specs.declared.calling.Reply.{Reply}
 use Rattle.wf_machine.specs.declared.faulting.HttpFault.TheVariants as fault
+use Rattle.wf_machine.specs.Moments.{last_moment}
 use Rattle.wf_machine.specs.State.{State, new_state}
 use Rattle.wf_machine.specs.Replies.{printed_fault}
 use Rattle.wf_machine.specs.Serving.{Answered, IsLegal, answer_bytes, ends_closed, requests, served, wire}
@@ -39,13 +40,9 @@ IsNoMessage _ = Unit {0}
 
 -- ---- moments
 
--- the last moment that there is
-abbrev pub last_moment : ℕ
-last_moment = 2 ^ 53 - 1
-
 -- the moment is the clock's first reading, where the clock tells it, and no later than the last moment
-abbrev pub IsMoment : Option (ℕ → ℕ) → ℕ → Type 0
-IsMoment told moment = (readings : ℕ → ℕ) → told ≡ Some readings → moment ≡ min (readings 0) last_moment
+abbrev pub IsFirstMoment : Option (ℕ → ℕ) → ℕ → Type 0
+IsFirstMoment told moment = (readings : ℕ → ℕ) → told ≡ Some readings → moment ≡ min (readings 0) last_moment
 
 -- ---- a run
 
@@ -134,14 +131,14 @@ pub record IsStandard (limits : Limits) : Type 0 where
   pub nesting : limits.nesting ≡ 16
   pub input : limits.input ≡ 2 ^ 40
 
--- under the standard limits, all calls at one moment, that of the clock
-abbrev pub RunsAtOnce : Option (ℕ → ℕ) → Option (List ℕ) → Option (List ℕ) → Option (List ℕ) → Option (List ℕ) → Status → Type 0
-RunsAtOnce told left left' old new status =
-    (limits : Limits) × (moment : ℕ) × (IsStandard limits × IsMoment told moment × RunsOver limits moment left left' old new status)
+-- under the standard limits, with the clock's moment in force until a request states one
+abbrev pub RunsFromClock : Option (ℕ → ℕ) → Option (List ℕ) → Option (List ℕ) → Option (List ℕ) → Option (List ℕ) → Status → Type 0
+RunsFromClock told left left' old new status =
+    (limits : Limits) × (moment : ℕ) × (IsStandard limits × IsFirstMoment told moment × RunsOver limits moment left left' old new status)
 
 -- the same, where the input is these messages and then ends
-abbrev pub CompletesAtOnce : Option (ℕ → ℕ) → Option (List ℕ) → Option (List ℕ) → Option (List ℕ) → Status → Type 0
-CompletesAtOnce told left old new status =
-    (limits : Limits) × (moment : ℕ) × (IsStandard limits × IsMoment told moment
+abbrev pub CompletesFromClock : Option (ℕ → ℕ) → Option (List ℕ) → Option (List ℕ) → Option (List ℕ) → Status → Type 0
+CompletesFromClock told left old new status =
+    (limits : Limits) × (moment : ℕ) × (IsStandard limits × IsFirstMoment told moment
     × ((input : List ℕ) (messages : List Request) → left ≡ Some input → IsItems limits input messages next.End
     → IsComplete limits moment messages old new status))

@@ -8,8 +8,9 @@ use Rattle.wf_wire.specs.Request.{Request, closes}
 use Rattle.wf_machine.specs.declared.calling.Reply.{Reply}
 use Rattle.wf_machine.specs.State.{State}
 use Rattle.wf_machine.specs.History.{stored, state_after}
+use Rattle.wf_machine.specs.Moments.{moment_at}
 use Rattle.wf_machine.specs.Requests.{call_of}
-use Rattle.wf_machine.specs.Serving.{Answered, IsAsked, IsLegal, answer_bytes, history_of, requests, wire}
+use Rattle.wf_machine.specs.Serving.{Answered, IsAsked, IsLegal, answer_bytes, history_of, moment_after, requests, wire}
 use Rattle.conductor.specs.declared.status.Status.{Status}
 use Rattle.conductor.specs.declared.status.Status.TheVariants.{Done, NoMemory, ReadFault, WriteFault, BadFrame, Cut, LongInput, TooLarge}
 use Rattle.conductor.specs.declared.batch.Turn.{Turn}
@@ -19,7 +20,7 @@ use Rattle.conductor.specs.Runs.{Appends, AppendsPart, IsOpen, end_bytes, first_
 -- the request was asked, and these bytes are the answer
 abbrev pub IsAnswer : Limits → ℕ → State → State → Request → List ℕ → Type 0
 IsAnswer limits moment s s' m bytes =
-    (reply : Option Reply) × (IsAsked limits moment s s' (call_of limits m) reply × (bytes ≡ answer_bytes first_mark m reply))
+    (reply : Option Reply) × (IsAsked limits moment s s' (call_of limits first_mark m) reply × (bytes ≡ answer_bytes first_mark m reply))
 
 -- what answering a request leaves
 abbrev pub IsAnswered : Limits → ℕ → State → State → Request → Option (List ℕ) → Option (List ℕ) → Turn → Type 0
@@ -48,25 +49,28 @@ IsStopped next.LongInput old new status = (status ≡ LongInput) × Appends old 
 IsStopped next.ReadFault old new status = (status ≡ ReadFault) × Appends old new []
 IsStopped next.NoMemory old new status = (status ≡ NoMemory) × Appends old new []
 
--- at the offset o stand p, of which the source then has `left`: a request was answered, or the run stops
-abbrev pub IsTurn : Limits → ℕ → ℕ → List ℕ → List ℕ → ℕ → List ℕ → State → State → Option (List ℕ) → Option (List ℕ) → Turn → Type 0
-IsTurn limits moment o p left o' p' s s' old new Goes = (m : Request) × (IsMessage limits o p m o' p' × IsAnswered limits moment s s' m old new Goes)
-IsTurn limits moment o p left o' p' s s' old new (Stops status) =
-    ((m : Request) × (IsMessage limits o p m o' p' × IsAnswered limits moment s s' m old new (Stops status)))
+-- at the offset o stand p, of which the source then has `left`: a request was answered at its moment, where `before` was
+-- in force, or the run stops
+abbrev pub IsTurn : Limits → ℕ → ℕ → ℕ → List ℕ → List ℕ → ℕ → List ℕ → State → State → Option (List ℕ) → Option (List ℕ) → Turn → Type 0
+IsTurn limits before after o p left o' p' s s' old new Goes =
+    (m : Request) × (IsMessage limits o p m o' p' × ((after ≡ moment_at before m) × IsAnswered limits (moment_at before m) s s' m old new Goes))
+IsTurn limits before after o p left o' p' s s' old new (Stops status) =
+    ((m : Request) × (IsMessage limits o p m o' p' × IsAnswered limits (moment_at before m) s s' m old new (Stops status)))
     ⊎ ((end : Next) × (IsStop limits o p left end × IsStopped end old new status))
 
 -- ---- turn by turn
 
--- after these answers the input stands at the offset o with p, and the machine in the state s
-pub record Stands (limits : Limits) (moment : ℕ) (input : List ℕ) (old : Option (List ℕ)) (answered : List Answered) (o : ℕ) (p : List ℕ) (s : State) (new : Option (List ℕ)) : Type 0 where
+-- after these answers the input stands at the offset o with p, the machine in the state s, and the moment `now` is in force
+pub record Stands (limits : Limits) (moment : ℕ) (input : List ℕ) (old : Option (List ℕ)) (answered : List Answered) (o : ℕ) (p : List ℕ) (s : State) (now : ℕ) (new : Option (List ℕ)) : Type 0 where
   pub leads : Leads limits 0 input (requests answered) o p
   pub unclosed : IsOpen answered
   pub legal : IsLegal limits first_state moment answered
-  pub state : stored (state_after limits first_state (history_of limits moment answered)) ≡ stored s
+  pub state : stored (state_after limits first_state (history_of limits first_mark moment answered)) ≡ stored s
+  pub in_force : moment_after moment answered ≡ now
   pub wrote : Appends old new (wire first_mark answered)
 
 -- the same, where the source tells its bytes
-abbrev pub StandsOver : Limits → ℕ → Option (List ℕ) → Option (List ℕ) → ℕ → List ℕ → Option (List ℕ) → State → Option (List ℕ) → Type 0
-StandsOver limits moment left old o held left' s new =
+abbrev pub StandsOver : Limits → ℕ → Option (List ℕ) → Option (List ℕ) → ℕ → List ℕ → Option (List ℕ) → State → ℕ → Option (List ℕ) → Type 0
+StandsOver limits moment left old o held left' s now new =
     (input : List ℕ) → left ≡ Some input → (rest : List ℕ) × ((left' ≡ Some rest)
-    × ((answered : List Answered) × Stands limits moment input old answered o (held ++ rest) s new))
+    × ((answered : List Answered) × Stands limits moment input old answered o (held ++ rest) s now new))

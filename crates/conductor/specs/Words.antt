@@ -1,7 +1,7 @@
 -- The grammar of the command line.
 use Rattle.std.specs.Prelude.{Bool, false, List, [], ◌∷◌, codes, String, string_bytes}
 use Rattle.std.specs.declared.alloc.Global.{Global}
-use Rattle.wf_machine.specs.Calls.{same_text}
+use Rattle.wf_machine.specs.Text.{same_text}
 
 -- the one word `batch`
 abbrev pub are_batch : List (String Global) → Bool

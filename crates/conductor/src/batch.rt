@@ -4,14 +4,14 @@ ghost use Rattle.std.specs.Prelude.{◌≡◌, ◌≢◌, ◌<◌, ◌≤◌, �
 ghost use Rattle.wf_wire.specs.Stream.{Rose};
 ghost use Rattle.wf_wire.specs.Items.{Coming};
 ghost use Rattle.wf_machine.specs.Replies.{IsPrintable, printed_fault};
-ghost use Rattle.wf_machine.specs.Requests.{call_of};
+ghost use Rattle.wf_machine.specs.Moments.{moment_at};
+ghost use Rattle.wf_machine.specs.Records.{IsMoment};
+ghost use Rattle.wf_machine.specs.Requests.{call_of, fault_of};
 ghost use Rattle.wf_machine.specs.Serving.{IsAsked, answer_bytes};
 ghost use Rattle.conductor.specs.Words.{are_batch};
-ghost use Rattle.conductor.specs.Runs.{CompletesAtOnce, IsNoMessage, RunsAtOnce, RunsOver, first_mark, first_state};
+ghost use Rattle.conductor.specs.Runs.{CompletesFromClock, IsNoMessage, RunsFromClock, RunsOver, first_mark, first_state};
 ghost use Rattle.conductor.specs.Turns.{IsAnswer, IsAnswered, IsRefused, IsStopped, IsTurn};
 
-use crate::rest::replies::{print_fault, print_reply};
-use crate::rest::requests::read_call;
 use crate::status::Status;
 use crate::words::{Word, is_batch};
 use std::alloc::Global;
@@ -19,6 +19,7 @@ use wf_core::Core;
 use wf_doc::{NoMemory, Text};
 use wf_machine::{HttpFault, Reply};
 use wf_names::Refusal;
+use wf_rest::{moment_of, print_fault, print_reply, read_call};
 use wf_wire::laws::{items_are_unique, read_messages_are_first};
 use wf_wire::{Clock, Inbox, Limits, Message, Next, Sink, Source, next_message, write_all};
 
@@ -47,7 +48,8 @@ fn answer<W: Sink>(
     sink: &mut W,
     message: &Message,
 ) -> Turn
-    requires { core.old.entries < 2 ^ 62 }
+    requires entries { core.old.entries < 2 ^ 62 }
+    requires moment { IsMoment moment }
     ensures turn { IsAnswered core.old.limits moment core.old.state core.new.state message.now (W.taken sink.old) (W.taken sink.new) result }
     ensures limits { core.new.limits ≡ core.old.limits }
     ensures entries { core.new.entries ≤ core.old.entries + 1 }
@@ -76,7 +78,8 @@ fn answer_text(
     core: &mut Core,
     message: &Message,
 ) -> Result<Text, NoMemory>
-    requires { core.old.entries < 2 ^ 62 }
+    requires entries { core.old.entries < 2 ^ 62 }
+    requires moment { IsMoment moment }
     ensures answer { IfOk result (IsAnswer core.old.limits moment core.old.state core.new.state message.now) }
     ensures limits { core.new.limits ≡ core.old.limits }
     ensures entries { core.new.entries ≤ core.old.entries + 1 }
@@ -87,13 +90,14 @@ fn answer_text(
 
 /// The machine's reply to a request, where it is a call. Where memory was wanting while it was read, the reply says so.
 fn ask(alloc: Global, moment: u64, core: &mut Core, message: &Message) -> Option<Reply>
-    requires { core.old.entries < 2 ^ 62 }
-    ensures asked { IsAsked core.old.limits moment core.old.state core.new.state (call_of core.old.limits message.now) result }
+    requires entries { core.old.entries < 2 ^ 62 }
+    requires moment { IsMoment moment }
+    ensures asked { IsAsked core.old.limits moment core.old.state core.new.state (call_of core.old.limits first_mark message.now) result }
     ensures printable { IfSome result IsPrintable }
     ensures limits { core.new.limits ≡ core.old.limits }
     ensures entries { core.new.entries ≤ core.old.entries + 1 }
 {
-    match read_call(alloc, message, core.limits()) {
+    match read_call(alloc, message, MARK, core.limits()) {
         Ok(call) => Some(core.step(alloc, 0, moment, call)),
         Err(HttpFault::NoMemory) => Some(Reply::Refused(Refusal::NoMemory)),
         Err(_) => None,
@@ -108,7 +112,29 @@ fn print_answer(alloc: Global, message: &Message, reply: &Option<Reply>) -> Resu
     let head = message.method() == b"HEAD".as_slice();
     match reply {
         Some(reply) => print_reply(alloc, reply, MARK, close, head),
-        None => print_fault(alloc, HttpFault::NotBuilt, close, head),
+        None => print_fault(alloc, fault_of(message), close, head),
+    }
+}
+
+/// Why a request is no call.
+fn fault_of(message: &Message) -> HttpFault
+    ensures { result ≡ fault_of message.now }
+{
+    match moment_of(message) {
+        Ok(_) => HttpFault::NotBuilt,
+        Err(fault) => fault,
+    }
+}
+
+/// The moment of a request: the one that it states, or else that of the request before it.
+fn moment_at(before: u64, message: &Message) -> u64
+    requires { IsMoment before }
+    ensures moment { result ≡ moment_at before message.now }
+    ensures range { IsMoment result }
+{
+    match moment_of(message) {
+        Ok(Some(moment)) => moment,
+        _ => before,
     }
 }
 
@@ -152,19 +178,21 @@ fn stop<W: Sink>(alloc: Global, sink: &mut W, end: Next) -> Status
     }
 }
 
-/// Answers the next request of the source, or stops.
+/// Answers the next request of the source, or stops. The moment is the one in force, and becomes the request's.
 fn take_turn<R: Source, W: Sink>(
     alloc: Global,
-    moment: u64,
+    moment: &mut u64,
     core: &mut Core,
     inbox: &mut Inbox,
     source: &mut R,
     sink: &mut W,
 ) -> Turn
     requires entries { core.old.entries < 2 ^ 62 }
+    requires moment { IsMoment moment.old }
     requires within { inbox.old.offset + length inbox.old.held ≤ core.old.limits.input }
     ensures turn { Coming inbox.old.held (R.left source.old) inbox.new.held (R.left source.new) (λ p left p'.
-        IsTurn core.old.limits moment inbox.old.offset p left inbox.new.offset p' core.old.state core.new.state (W.taken sink.old) (W.taken sink.new) result) }
+        IsTurn core.old.limits moment.old moment.new inbox.old.offset p left inbox.new.offset p' core.old.state core.new.state (W.taken sink.old) (W.taken sink.new) result) }
+    ensures moment { IsMoment moment.new }
     ensures within { result ≡ Turn.Goes → inbox.new.offset + length inbox.new.held ≤ core.old.limits.input }
     ensures limits { core.new.limits ≡ core.old.limits }
     ensures entries { core.new.entries ≤ core.old.entries + 1 }
@@ -175,7 +203,10 @@ fn take_turn<R: Source, W: Sink>(
     ensures own_status { result ≢ Turn.Stops Status.Usage }
 {
     match next_message(alloc, inbox, source, core.limits()) {
-        Next::Message(message) => answer(alloc, moment, core, sink, &message),
+        Next::Message(message) => {
+            *moment = moment_at(*moment, &message);
+            answer(alloc, *moment, core, sink, &message)
+        }
         end => Turn::Stops(stop(alloc, sink, end)),
     }
 }
@@ -190,6 +221,7 @@ fn serve<R: Source, W: Sink>(
 ) -> Status
     requires state { core.old.state ≡ first_state }
     requires entries { core.old.entries ≡ 0 }
+    requires moment { IsMoment moment }
     ensures run { RunsOver core.old.limits moment (R.left source.old) (R.left source.new) (W.taken sink.old) (W.taken sink.new) result }
     ensures source_count { R.faults source.old ≤ R.faults source.new }
     ensures sink_count { W.faults sink.old ≤ W.faults sink.new }
@@ -201,8 +233,9 @@ fn serve<R: Source, W: Sink>(
         Ok(inbox) => inbox,
         Err(_) => return Status::NoMemory,
     };
+    let mut in_force = moment;
     for _turn in 0..MOST_TURNS {
-        match take_turn(alloc, moment, core, &mut inbox, source, sink) {
+        match take_turn(alloc, &mut in_force, core, &mut inbox, source, sink) {
             Turn::Goes => {}
             Turn::Stops(status) => return status,
         }
@@ -212,7 +245,8 @@ fn serve<R: Source, W: Sink>(
 
 /// Answers HTTP requests, one after another, over a new store that is kept nowhere.
 ///
-/// The words are `batch` alone. Each request acts at the clock's one reading, in milliseconds. Where an answer or an
+/// The words are `batch` alone. A request acts at the moment that its one field `Moment-Ms` states, in milliseconds, or
+/// else at that of the nearest request before it that states one, or else at the clock's one reading. Where an answer or an
 /// end finds no memory, nothing more is written; a call that finds none is answered NO_MEMORY, and the run goes on.
 pub fn batch<R: Source, W: Sink, C: Clock>(
     alloc: Global,
@@ -222,7 +256,7 @@ pub fn batch<R: Source, W: Sink, C: Clock>(
     clock: &mut C,
 ) -> Status
     // The answers are those of one history of the machine.
-    ensures run { are_batch words.now ≡ true → RunsAtOnce (C.readings clock.old) (R.left source.old) (R.left source.new) (W.taken sink.old) (W.taken sink.new) result }
+    ensures run { are_batch words.now ≡ true → RunsFromClock (C.readings clock.old) (R.left source.old) (R.left source.new) (W.taken sink.old) (W.taken sink.new) result }
 
     // When each fault may come.
     ensures usage { (result ≡ Status.Usage) ↔ (are_batch words.now ≡ false) }
@@ -234,7 +268,7 @@ pub fn batch<R: Source, W: Sink, C: Clock>(
 
     // Where nothing fails, all is answered, but for want of memory.
     ensures complete { are_batch words.now ≡ true → ¬ (Rose (R.faults source.old) (R.faults source.new)) → ¬ (Rose (W.faults sink.old) (W.faults sink.new))
-        → CompletesAtOnce (C.readings clock.old) (R.left source.old) (W.taken sink.old) (W.taken sink.new) result }
+        → CompletesFromClock (C.readings clock.old) (R.left source.old) (W.taken sink.old) (W.taken sink.new) result }
 {
     if !is_batch(words) {
         return Status::Usage;

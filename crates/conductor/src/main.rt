@@ -2,7 +2,6 @@
 #![tactic(auto)]
 
 mod batch;
-mod rest;
 mod status;
 #[cfg(test)]
 mod tests;

@@ -1,2 +1,3 @@
-pub mod RegistryLemmas
-pub mod ChangeLemmas
+pub mod GrowLemmas
+pub mod FoundLemmas
+mod MadeLemmas

@@ -1,47 +1,69 @@
 -- What a change makes of the state, and the room that it needs.
-use Rattle.std.specs.Prelude.{ℕ, ◌≡◌, ◌+◌, ◌≤◌, ◌^◌, List, [], ◌∷◌, ◌++◌}
-use Rattle.wf_machine.specs.State.{Kept, State}
-use Rattle.wf_machine.specs.Calls.{Stepped, with_flow_def}
-use Rattle.wf_core.specs.Store.{Store}
-use Rattle.wf_core.specs.declared.change.Touch.{Touch}
-use Rattle.wf_core.specs.declared.change.Touch.TheVariants.{FlowDef, NewFlow}
+use Rattle.std.specs.Prelude.{ℕ, ◌≡◌, ◌+◌, ◌<◌, ◌≤◌, ◌^◌, List, [], ◌∷◌, ◌++◌, length, Option, None, Some}
+use Rattle.wf_machine.specs.declared.sight.HandList.{HandList}
+use Rattle.wf_machine.specs.State.{Flow, Kept, State, RisingTo}
+use Rattle.wf_machine.specs.Calls.{Stepped, stepped, with_flow, with_flow_def, with_task_defs}
+use Rattle.wf_machine.specs.Queues.{with_hand}
+use Rattle.wf_machine.specs.Records.{IsMoment}
+use Rattle.wf_machine.specs.Replies.{IsPrintable}
+use Rattle.wf_kept.specs.Flows.{FlowTable, IsGrownFlow, new_attempts}
+use Rattle.wf_kept.specs.Hands.{Book, HasHandRoom}
+use Rattle.wf_core.specs.Store.{Store, book_of, table_of}
+use Rattle.wf_core.specs.declared.change.Touched.{Touched}
+use Rattle.wf_core.specs.declared.change.Touched.TheVariants.{Nothing, TaskDefs, FlowDef, NewFlow, Flow as OldFlow}
 use Rattle.wf_core.specs.declared.change.Change.{Change}
 
--- the state after one touch at the moment e, by the entry at that place
-abbrev pub touched_once : ℕ → ℕ → Touch → State → State
-touched_once place e (FlowDef def) s = record s { last = e; flow_defs = with_flow_def def s.flow_defs; defs_revision = place }
-touched_once place e (NewFlow r) s =
-    let kept : Kept = record { flow = r.flow; revision = place } in
-    record s { last = e; next_flow = s.next_flow + 1; flows = s.flows ++ kept ∷ [] }
+abbrev pub hand_noted : Option (List ℕ) → ℕ → List HandList → List HandList
+hand_noted None e hands = hands
+hand_noted (Some name) e hands = with_hand name e hands
 
--- the state after all of them
-abbrev pub all_touched : ℕ → ℕ → List Touch → State → State
-all_touched place e [] s = s
-all_touched place e (t ∷ ts) s = all_touched place e ts (touched_once place e t s)
+-- the state after what is touched at the moment e, by the entry at that place
+abbrev pub touched : ℕ → ℕ → Touched → State → State
+touched place e Nothing s = s
+touched place e (TaskDefs defs) s = record s { last = e; task_defs = with_task_defs defs.items s.task_defs; defs_revision = place }
+touched place e (FlowDef def) s = record s { last = e; flow_defs = with_flow_def def s.flow_defs; defs_revision = place }
+touched place e (NewFlow flow next_task) s =
+    let kept : Kept = record { flow = flow.flow; revision = place } in
+    record s { last = e; next_flow = s.next_flow + 1; next_task = next_task; flows = s.flows ++ kept ∷ [] }
+touched place e (OldFlow flow next_task hand) s =
+    record (with_flow place flow.flow s) { last = e; next_task = next_task; hands = hand_noted hand e s.hands }
 
 -- what the change makes of the state, as the entry at that place, and the reply
 abbrev pub change_made : ℕ → Change → State → Stepped
-change_made place c s = record { state = all_touched place c.moment c.touched.items s; reply = c.reply }
+change_made place c s = stepped (touched place c.moment c.touched s) c.reply
 
 -- ---- room
 
-abbrev pub definitions_in : List Touch → ℕ
-definitions_in [] = 0
-definitions_in (FlowDef def ∷ ts) = definitions_in ts + 1
-definitions_in (NewFlow r ∷ ts) = definitions_in ts
+-- a new flow has the next number, and its attempts the next ones
+pub record IsNewFlow (table : FlowTable) (flow : Flow) (next_task : ℕ) : Type 0 where
+  pub number : flow.number.0 ≡ table.next_flow
+  pub numbers_left : table.next_flow < 2 ^ 56
+  pub attempts : RisingTo table.next_task next_task flow.attempts
+  pub limit : next_task ≤ 2 ^ 56
+  pub room_flows : 0 < table.spare_flows
+  pub room_tasks : length flow.attempts ≤ table.spare_tasks
 
-abbrev pub flows_in : List Touch → ℕ
-flows_in [] = 0
-flows_in (FlowDef def ∷ ts) = flows_in ts
-flows_in (NewFlow r ∷ ts) = flows_in ts + 1
+abbrev pub HasRoomFor : Option (List ℕ) → Book → Type 0
+HasRoomFor None book = Unit {0}
+HasRoomFor (Some name) book = HasHandRoom name book
 
--- there is room for what these touch, and there are numbers for their flows
-pub record HasRoom (touched : List Touch) (store : Store) : Type 0 where
-  pub definitions : definitions_in touched ≤ store.spare_defs
-  pub flows : flows_in touched ≤ store.spare_flows
-  pub numbers : store.state.next_flow + flows_in touched ≤ 2 ^ 56
+-- a kept flow has grown, and there is room for its new attempts
+pub record IsOldFlow (table : FlowTable) (flow : Flow) (next_task : ℕ) : Type 0 where
+  pub grown : IsGrownFlow table flow next_task
+  pub limit : next_task ≤ 2 ^ 56
+  pub room : new_attempts flow table.kept ≤ table.spare_tasks
 
--- the change is what a call makes of the state, and there is room for it
+-- what is touched has room, and fits what is kept
+abbrev pub IsReady : Touched → Store → Type 0
+IsReady Nothing store = Unit {0}
+IsReady (TaskDefs defs) store = length defs.items ≤ store.rooms.task_defs
+IsReady (FlowDef def) store = 0 < store.rooms.flow_defs
+IsReady (NewFlow flow next_task) store = IsNewFlow (table_of store) flow.flow next_task
+IsReady (OldFlow flow next_task hand) store = IsOldFlow (table_of store) flow.flow next_task × HasRoomFor hand (book_of store)
+
+-- the change is what a call makes of the state, and it is ready
 pub record IsPrepared (made : Stepped) (old new : Store) (change : Change) : Type 0 where
   pub makes : change_made (old.entries + 1) change old.state ≡ made
-  pub fits : HasRoom change.touched.items new
+  pub ready : IsReady change.touched new
+  pub moment : IsMoment change.moment
+  pub printable : IsPrintable change.reply

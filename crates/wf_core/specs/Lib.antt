@@ -1,3 +1,4 @@
-pub mod Room
 pub mod Store
 pub mod Changes
+pub mod Grown
+pub mod Found

@@ -1,20 +1,36 @@
 -- What a core holds, as contracts see it.
-use Rattle.std.specs.Prelude.{ℕ, List, map}
+use Rattle.std.specs.Prelude.{ℕ, List}
 use Rattle.wf_wire.specs.declared.limits.Limits.{Limits}
-use Rattle.wf_machine.specs.State.{Kept, State}
-use Rattle.wf_core.specs.declared.kept.KeptFlow.{KeptFlow}
+use Rattle.wf_machine.specs.State.{State}
+use Rattle.wf_kept.specs.Flows.{FlowTable}
+use Rattle.wf_kept.specs.Hands.{Book}
 
--- the machine's state, its limits, how many entries were made, and the room for more flows and definitions
+-- what has room without memory: more flows, attempts and definitions, and hand-outs of these names
+pub record Rooms : Type 0 where
+  pub flows : ℕ
+  pub tasks : ℕ
+  pub task_defs : ℕ
+  pub flow_defs : ℕ
+  pub hands : List (List ℕ)
+
+-- the machine's state, its limits, how many entries were made, and the room
 pub record Store : Type 0 where
   pub state : State
   pub limits : Limits
   pub entries : ℕ
-  pub spare_flows : ℕ
-  pub spare_defs : ℕ
+  pub rooms : Rooms
 
--- flows as the machine keeps them: without the room that they have
-abbrev pub kept : KeptFlow → Kept
-kept k = record { flow = k.flow.flow; revision = k.revision }
+-- the kept flows with the numbers that come next
+abbrev pub table_of : Store → FlowTable
+table_of s =
+    record {
+      kept = s.state.flows;
+      next_flow = s.state.next_flow;
+      next_task = s.state.next_task;
+      spare_flows = s.rooms.flows;
+      spare_tasks = s.rooms.tasks;
+    }
 
-abbrev pub all_kept : List KeptFlow → List Kept
-all_kept flows = map kept flows
+-- the hand-outs with the names that have room
+abbrev pub book_of : Store → Book
+book_of s = record { lists = s.state.hands; ready = s.rooms.hands }

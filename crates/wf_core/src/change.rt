@@ -1,21 +1,45 @@
 //! What a call changes, made ready before it is done.
 
-use wf_flow::Flow;
-use wf_machine::{FlowDef, Reply};
+ghost use Rattle.std.specs.Prelude.{◌≡◌};
 
-/// One thing that a change touches.
+use wf_doc::Text;
+use wf_flow::Flow as FlowRecord;
+use wf_machine::{FlowDef as Definition, Reply, TaskDef};
+
+/// What a change touches.
 #[derive(Drop)]
-pub enum Touch {
-    /// The definition is registered.
-    FlowDef(FlowDef),
-    /// The flow is kept, under the next number.
-    NewFlow(Flow),
+pub enum Touched {
+    Nothing,
+    /// The tasks are registered, one after another.
+    TaskDefs(Vec<TaskDef>),
+    /// The workflow is registered.
+    FlowDef(Definition),
+    /// The flow is kept, under the next number; then the next number of an attempt is this one.
+    NewFlow(FlowRecord, u64),
+    /// The kept flow of its number becomes this one; then the next number of an attempt is this one. Where a name is
+    /// given, a hand-out of that name is noted.
+    Flow(FlowRecord, u64, Option<Text>),
 }
 
-/// A change that is ready to be made: what it touches, one after another, at which moment, and the reply to the call.
+/// A change that is ready to be made: what it touches, at which moment, and the reply to the call.
 #[derive(Drop)]
 pub struct Change {
     pub moment: u64,
-    pub touched: Vec<Touch>,
+    pub touched: Touched,
     pub reply: Reply,
+}
+
+impl Change {
+    /// The change of a call that changes nothing.
+    pub(crate) fn none(reply: Reply) -> Change
+        ensures touched { result.touched ≡ Touched.Nothing }
+        ensures moment { result.moment ≡ 0 }
+        ensures reply { result.reply ≡ reply }
+    {
+        Change {
+            moment: 0,
+            touched: Touched::Nothing,
+            reply,
+        }
+    }
 }

@@ -35,3 +35,21 @@ impl From<wf_flow::NoMemory> for NoMemory {
         NoMemory
     }
 }
+
+impl From<wf_decide::NoMemory> for NoMemory {
+    fn from(_refused: wf_decide::NoMemory) -> NoMemory {
+        NoMemory
+    }
+}
+
+impl From<wf_calls::NoMemory> for NoMemory {
+    fn from(_refused: wf_calls::NoMemory) -> NoMemory {
+        NoMemory
+    }
+}
+
+impl From<wf_kept::NoMemory> for NoMemory {
+    fn from(_refused: wf_kept::NoMemory) -> NoMemory {
+        NoMemory
+    }
+}

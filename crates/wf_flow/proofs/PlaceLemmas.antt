@@ -1,5 +1,5 @@
 -- Where the attempt of a number stands among attempts whose numbers rise.
-use Rattle.std.proofs.Common.{◌≡◌, ◌≢◌, ℕ, zero, suc, ◌+◌, ◌<◌, ◌≤◌, if◌then◌else◌, List, [], ◌∷◌, length, get_or, slice_get, slice_set, None, Some, Result, Ok, Err, IfNone, IfSome, refl, sym, ap, inl, inr, subst, arith}
+use Rattle.std.proofs.Common.{◌≡◌, ◌≢◌, ℕ, zero, suc, ◌+◌, ◌<◌, ◌≤◌, if◌then◌else◌, List, [], ◌∷◌, length, get_or, slice_get, slice_set, option_map, Option, None, Some, Result, Ok, Err, IsSome, IsSomeAnd, IfNone, IfSome, refl, ◌∙◌, sym, ap, inl, inr, subst, arith}
 use Rattle.std.specs.List.Sorted.{IsSearchInRange, IsBinarySearchResult, IsNonDecreasingBy, IsPartitionPoint}
 use Rattle.std.specs.Result.{result_ok}
 use Rattle.std.specs.declared.cmp.Ordering.TheVariants.{Less, Greater}
@@ -70,7 +70,7 @@ numbered_at low task (x ∷ xs) (suc i) rising there =
     let above = low_at (x.number.0 + 1) task xs i rising.1 there in
     grind (arith, nat_tests, numbered_at (x.number.0 + 1) task xs i rising.1 there)
 
-with_above : (low : ℕ) (a : Attempt) (xs : List Attempt) → RisingFrom low xs → a.number.0 < low → with_attempt a xs ≡ xs
+pub with_above : (low : ℕ) (a : Attempt) (xs : List Attempt) → RisingFrom low xs → a.number.0 < low → with_attempt a xs ≡ xs
 with_above low a [] rising above = refl
 with_above low a (x ∷ xs) rising above = grind (arith, nat_tests, rising.0, with_above (x.number.0 + 1) a xs rising.1 (omega (arith, rising.0)))
 
@@ -82,6 +82,30 @@ with_at low a (x ∷ xs) zero rising there =
 with_at low a (x ∷ xs) (suc i) rising there =
     let above = low_at (x.number.0 + 1) a.number xs i rising.1 there in
     grind (arith, nat_tests, with_at (x.number.0 + 1) a xs i rising.1 there)
+
+-- a change at the place of a number is one of the attempt of that number
+put_by : (xs ys : List Attempt) (i : ℕ) (change : Attempt → Attempt) → ((a : Attempt) → a.number ≡ (change a).number) → RisingFrom 1 xs → (o : Option Attempt)
+    → option_map (λ a. a.number.0) o ≡ option_map (λ a. a.number.0) (slice_get xs i) → IsSome o → IfSome o (λ a. ys ≡ slice_set xs i (change a)) → IsSomeAnd o (λ a. ys ≡ with_attempt (change a) xs)
+put_by xs ys i change keeps rising None same there set = let no : ⊥ = cc in absurd no
+put_by xs ys i change keeps rising (Some a) same there set =
+    set ∙ with_at 1 (change a) xs i rising (sym same ∙ ap (λ n. Some n.0) (keeps a))
+
+place_there : (task : TaskNo) (o : Option Attempt) → option_map (λ a. a.number.0) o ≡ Some task.0 → IsSome o
+place_there task None there = let no : ⊥ = cc in absurd no
+place_there task (Some a) there = refl
+
+pub put_at : (task : TaskNo) (xs ys : List Attempt) (i : ℕ) (change : Attempt → Attempt) → ((a : Attempt) → a.number ≡ (change a).number) → RisingFrom 1 xs → IsPlaceOf task xs i
+    → IfSome (slice_get xs i) (λ a. ys ≡ slice_set xs i (change a)) → IsSomeAnd (attempt_numbered task xs) (λ a. ys ≡ with_attempt (change a) xs)
+put_at task xs ys i change keeps rising there set =
+    subst
+    (λ o. IsSomeAnd o (λ a. ys ≡ with_attempt (change a) xs))
+    (numbered_at 1 task xs i rising there)
+    (put_by xs ys i change keeps rising (slice_get xs i) refl (place_there task (slice_get xs i) there) set)
+
+pub place_within : (task : TaskNo) (xs : List Attempt) (i : ℕ) → IsPlaceOf task xs i → i < length xs
+place_within task [] i there = absurd cc
+place_within task (x ∷ xs) zero there = omega arith
+place_within task (x ∷ xs) (suc i) there = let within = place_within task xs i there in omega arith
 
 -- ---- the order after a replacement
 

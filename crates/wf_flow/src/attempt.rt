@@ -1,15 +1,17 @@
 //! One attempt at a node.
 
-ghost use Rattle.std.specs.Prelude.{◌≡◌, IfOk};
+ghost use Rattle.std.specs.Prelude.{◌≡◌, ◌+◌, ◌<◌, ◌≤◌, ◌^◌, true, min, IfOk, Some};
 ghost use Rattle.std.specs.Option.{option_copied};
-ghost use Rattle.wf_machine.specs.State.{new_attempt};
+ghost use Rattle.wf_machine.specs.State.{canceled, new_attempt};
+ghost use Rattle.wf_machine.specs.Records.{Held, IsDueMoment, IsInRange, IsMoment};
+ghost use Rattle.wf_machine.specs.Tasks.{goes_on, handed_out, is_result_status, or_moment, or_worker, result_applied, result_noted};
 
 use crate::empty::{empty_table, empty_text};
 use crate::no_memory::NoMemory;
 use std::alloc::Global;
 use std::marker::Model;
 use wf_doc::{Doc, Text};
-use wf_machine::Timing;
+use wf_machine::{TaskResult, Timing};
 use wf_names::{FlowNo, TaskNo, TaskStatus};
 
 /// One attempt at a node. Moments are milliseconds.
@@ -51,33 +53,12 @@ impl Model for Attempt {
 
     ghost coded = { Prim.hlevel (codes, doc.the_row.coded) };
 
-    ghost view = { λ a. record {
-      number = a.number;
-      node = a.node;
-      iteration = a.iteration;
-      status = a.status;
-      input = a.input;
-      output = a.output;
-      reason = a.reason;
-      retry = a.retry;
-      retried = a.retried;
-      scheduled = a.scheduled;
-      ready = a.ready;
-      first_poll = a.first_poll;
-      last_poll = a.last_poll;
-      updated = a.updated;
-      ended = a.ended;
-      polls = a.polls;
-      callback = a.callback;
-      worker = a.worker;
-      timing = a.timing;
-      poll_noted = a.poll_noted;
-      total_noted = a.total_noted;
-      wait = a.wait;
-      child = a.child;
-      turn = a.turn;
-      superseded = a.superseded;
-    } };
+    ghost use Rattle.wf_machine.specs.Records.{IsInRange};
+    ghost use Rattle.wf_flow.specs.AttemptFields.{attempt_shown};
+
+    ghost view = { attempt_shown };
+
+    ghost invariant = { λ a. IsInRange (attempt_shown a) };
 }
 
 impl Attempt {
@@ -92,6 +73,8 @@ impl Attempt {
         input: Doc,
         moment: u64,
     ) -> Attempt
+        requires number { number.0 < 2 ^ 56 }
+        requires moment { IsMoment moment }
         ensures { result ≡ new_attempt number node iteration status input moment }
     {
         Attempt {
@@ -318,7 +301,7 @@ impl Attempt {
         self.turn
     }
 
-    /// A later attempt stands in its place.
+    /// It no longer counts for how far its node has come, and isn't shown.
     pub fn superseded(&self) -> bool
         ensures { result ≡ self.now.superseded }
     {
@@ -350,36 +333,42 @@ impl Attempt {
     }
 
     pub fn set_retried(&mut self, value: Option<TaskNo>)
+        requires { Held (λ task. task.0 < 2 ^ 56) value }
         ensures { self.new ≡ record self.old { retried = value } }
     {
         self.retried = value;
     }
 
     pub fn set_ready(&mut self, value: u64)
+        requires { IsDueMoment value }
         ensures { self.new ≡ record self.old { ready = value } }
     {
         self.ready = value;
     }
 
     pub fn set_first_poll(&mut self, value: Option<u64>)
+        requires { Held IsMoment value }
         ensures { self.new ≡ record self.old { first_poll = value } }
     {
         self.first_poll = value;
     }
 
     pub fn set_last_poll(&mut self, value: u64)
+        requires { IsMoment value }
         ensures { self.new ≡ record self.old { last_poll = value } }
     {
         self.last_poll = value;
     }
 
     pub fn set_updated(&mut self, value: u64)
+        requires { IsMoment value }
         ensures { self.new ≡ record self.old { updated = value } }
     {
         self.updated = value;
     }
 
     pub fn set_ended(&mut self, value: Option<u64>)
+        requires { Held IsMoment value }
         ensures { self.new ≡ record self.old { ended = value } }
     {
         self.ended = value;
@@ -422,12 +411,14 @@ impl Attempt {
     }
 
     pub fn set_wait(&mut self, value: Option<u64>)
+        requires { Held IsDueMoment value }
         ensures { self.new ≡ record self.old { wait = value } }
     {
         self.wait = value;
     }
 
     pub fn set_child(&mut self, value: Option<FlowNo>)
+        requires { Held (λ flow. flow.0 < 2 ^ 56) value }
         ensures { self.new ≡ record self.old { child = value } }
     {
         self.child = value;
@@ -443,5 +434,112 @@ impl Attempt {
         ensures { self.new ≡ record self.old { superseded = value } }
     {
         self.superseded = value;
+    }
+
+    /// That its numbers and moments are in their ranges, as a fact.
+    pub fn in_range(&self)
+        ensures { IsInRange self.now }
+    {
+        let _number = self.number;
+    }
+
+    /// Ends it as CANCELED where it is open.
+    pub(crate) fn cancel(&mut self, moment: u64)
+        requires { IsMoment moment }
+        ensures { self.new ≡ canceled moment self.old }
+    {
+        if self.status.is_open() {
+            self.status = TaskStatus::Canceled;
+            self.updated = moment;
+            self.ended = Some(moment);
+        }
+    }
+
+    /// Hands it out to a worker.
+    pub(crate) fn hand_out(&mut self, worker: Text, moment: u64)
+        requires { IsMoment moment }
+        ensures { self.new ≡ handed_out moment worker self.old }
+    {
+        self.status = TaskStatus::InProgress;
+        self.first_poll = or_moment(self.first_poll, moment);
+        self.last_poll = moment;
+        self.updated = moment;
+        self.polls = one_more_poll(self.polls);
+        self.worker = worker;
+    }
+
+    /// Takes what a worker tells of it while it is open. `simple` tells that its node is a SIMPLE one.
+    pub(crate) fn apply_result(&mut self, simple: bool, outcome: TaskResult, moment: u64)
+        requires status { is_result_status outcome.status ≡ true }
+        requires callback { outcome.callback ≤ 2147483647 }
+        requires moment { IsMoment moment }
+        ensures { self.new ≡ result_applied moment simple outcome self.old }
+    {
+        let status = outcome.status;
+        let callback = outcome.callback;
+        self.note_result(outcome, moment);
+        match status {
+            TaskStatus::InProgress => self.go_on(simple, callback, moment),
+            _ => self.finish(status, moment),
+        }
+    }
+
+    fn note_result(&mut self, outcome: TaskResult, moment: u64)
+        requires { IsMoment moment }
+        ensures { self.new ≡ result_noted moment outcome self.old }
+    {
+        self.output = outcome.output;
+        self.reason = outcome.reason;
+        self.callback = outcome.callback;
+        self.updated = moment;
+        self.note_worker(outcome.worker);
+    }
+
+    fn note_worker(&mut self, worker: Option<Text>)
+        ensures { self.new ≡ record self.old { worker = or_worker self.old.worker worker } }
+    {
+        if let Some(worker) = worker {
+            self.worker = worker;
+        }
+    }
+
+    fn go_on(&mut self, simple: bool, callback: u32, moment: u64)
+        requires callback { callback ≤ 2147483647 }
+        requires moment { IsMoment moment }
+        ensures { self.new ≡ goes_on moment callback simple self.old }
+    {
+        if simple {
+            self.status = TaskStatus::Scheduled;
+            self.ready = moment + 1000 * callback as u64;
+        } else {
+            self.status = TaskStatus::InProgress;
+        }
+    }
+
+    fn finish(&mut self, status: TaskStatus, moment: u64)
+        requires { IsMoment moment }
+        ensures { self.new ≡ record self.old { status = status; ended = Some moment } }
+    {
+        self.status = status;
+        self.ended = Some(moment);
+    }
+}
+
+fn or_moment(first: Option<u64>, moment: u64) -> Option<u64>
+    ensures { result ≡ or_moment first moment }
+{
+    match first {
+        Some(_) => first,
+        None => Some(moment),
+    }
+}
+
+fn one_more_poll(polls: u32) -> u32
+    ensures { result ≡ min (polls + 1) 2147483647 }
+{
+    if polls < 2147483647 {
+        polls + 1
+    } else {
+        2147483647
     }
 }

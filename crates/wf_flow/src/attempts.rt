@@ -1,8 +1,11 @@
 //! The attempts of one flow, with room for more.
 
-ghost use Rattle.std.specs.Prelude.{◌≡◌, [], ◌∷◌, ◌++◌, ◌+◌, ◌<◌, ◌≤◌, length, slice_get, slice_set, IfNone, IfOk, IfSome, OnOk, None, Some};
+ghost use Rattle.std.specs.Prelude.{◌≡◌, [], ◌∷◌, ◌++◌, ◌+◌, ◌<◌, ◌≤◌, true, map, length, slice_get, slice_set, IfNone, IfOk, IfSome, OnOk, None, Some};
 ghost use Rattle.std.specs.Option.{option_copied};
-ghost use Rattle.wf_machine.specs.State.{RisingFrom, attempt_numbered};
+ghost use Rattle.wf_machine.specs.State.{RisingFrom, attempt_numbered, canceled};
+ghost use Rattle.wf_machine.specs.Records.{IsMoment};
+ghost use Rattle.wf_machine.specs.Tasks.{handed_out, is_result_status, result_applied};
+ghost use Rattle.wf_flow.specs.Changes.{open_numbers};
 ghost use Rattle.wf_flow.specs.Room.{IsPlaceOf};
 
 use crate::attempt::Attempt;
@@ -10,6 +13,8 @@ use crate::no_memory::NoMemory;
 use std::alloc::Global;
 use std::marker::Model;
 use std::mem;
+use wf_doc::{Items, Text};
+use wf_machine::TaskResult;
 use wf_names::TaskNo;
 
 #[derive(Drop)]
@@ -94,6 +99,69 @@ impl Attempts {
         ensures room { self.new.spare ≡ self.old.spare }
     {
         mem::replace(&mut self.items[place], attempt)
+    }
+
+    /// Hands the attempt at that place out to a worker.
+    pub fn hand_out(&mut self, place: usize, worker: Text, moment: u64)
+        requires there { place < length self.old.items }
+        requires moment { IsMoment moment }
+        ensures items { IfSome (slice_get self.old.items place) (λ a. self.new.items ≡ slice_set self.old.items place (handed_out moment worker a)) }
+        ensures room { self.new.spare ≡ self.old.spare }
+    {
+        self.items[place].hand_out(worker, moment);
+    }
+
+    /// Lets the attempt at that place take a result. `simple` tells that its node is a SIMPLE one.
+    pub fn apply_result(&mut self, place: usize, simple: bool, outcome: TaskResult, moment: u64)
+        requires there { place < length self.old.items }
+        requires status { is_result_status outcome.status ≡ true }
+        requires callback { outcome.callback ≤ 2147483647 }
+        requires moment { IsMoment moment }
+        ensures items { IfSome (slice_get self.old.items place) (λ a. self.new.items ≡ slice_set self.old.items place (result_applied moment simple outcome a)) }
+        ensures room { self.new.spare ≡ self.old.spare }
+    {
+        self.items[place].apply_result(simple, outcome, moment);
+    }
+
+    /// Cancels the open attempts.
+    pub fn cancel_open(&mut self, moment: u64)
+        requires { IsMoment moment }
+        ensures items { self.new.items ≡ map (canceled moment) self.old.items }
+        ensures room { self.new.spare ≡ self.old.spare }
+    {
+        for attempt in self.items.iter_mut() {
+            attempt.cancel(moment);
+        }
+    }
+
+    /// Marks the attempt at that place as superseded.
+    pub fn supersede(&mut self, place: usize)
+        requires { place < length self.old.items }
+        ensures items { IfSome (slice_get self.old.items place) (λ a. self.new.items ≡ slice_set self.old.items place (record a { superseded = true })) }
+        ensures room { self.new.spare ≡ self.old.spare }
+    {
+        self.items[place].set_superseded(true);
+    }
+
+    /// Takes all attempts away.
+    pub fn clear(&mut self)
+        ensures items { self.new.items ≡ [] }
+        ensures room { self.old.spare ≤ self.new.spare }
+    {
+        self.items.clear();
+    }
+
+    /// The numbers of the open attempts, in their order.
+    pub fn open(&self, alloc: Global) -> Result<Items<TaskNo>, NoMemory>
+        ensures { IfOk result (λ numbers. numbers ≡ open_numbers self.now.items) }
+    {
+        let mut numbers = Items::new(alloc);
+        for attempt in &self.items {
+            if attempt.status().is_open() {
+                numbers.push(attempt.number())?;
+            }
+        }
+        Ok(numbers)
     }
 
     /// A list of equal attempts.

@@ -1,18 +1,27 @@
 //! One workflow instance.
 
-ghost use Rattle.std.specs.Prelude.{◌≡◌, [], ◌∷◌, ◌++◌, ◌+◌, ◌<◌, ◌≤◌, length, slice_get, IfOk, IsSome, OnOk, Some};
-ghost use Rattle.std.specs.Option.{option_copied};
-ghost use Rattle.wf_machine.specs.State.{RisingFrom, RisingTo, attempt_numbered, new_flow, with_attempt};
+ghost use Rattle.std.specs.Prelude.{◌≡◌, ◌≢◌, [], ◌∷◌, ◌++◌, ◌+◌, ◌<◌, ◌≤◌, ◌^◌, true, false, length, slice_get, IfOk, IsSome, IsSomeAnd, OnOk, Ok, Some};
+ghost use Rattle.std.specs.Option.{option_copied, option_map_or};
+ghost use Rattle.wf_names.specs.FlowStatus.{flow_is_open};
+ghost use Rattle.wf_names.specs.TaskStatus.{task_is_open};
+ghost use Rattle.wf_machine.specs.State.{RisingFrom, RisingTo, attempt_numbered, flow_ended, new_flow, with_attempt};
+ghost use Rattle.wf_machine.specs.Records.{Each, Held, IsInRange, IsMoment, IsRecord, is_kind_at, is_scheduled, is_simple};
+ghost use Rattle.wf_machine.specs.Tasks.{handed_out, is_result_status, result_applied};
+ghost use Rattle.wf_flow.specs.Changes.{attempt_answer, cleared, open_numbers, reopened, update_answer};
 
 use crate::attempt::Attempt;
 use crate::attempts::Attempts;
 use crate::empty::{empty_table, empty_text};
 use crate::no_memory::NoMemory;
+use crate::nodes::{is_simple_at, takes_update_at};
 use std::alloc::Global;
 use std::marker::Model;
-use wf_doc::{Doc, Text};
-use wf_machine::FlowDef;
-use wf_names::{FlowNo, FlowStatus, TaskNo};
+use wf_doc::{Doc, Items, Text};
+use wf_machine::{FlowDef, TaskResult};
+use wf_names::{FlowNo, FlowStatus, Refusal, TaskNo};
+
+/// Numbers of attempts in an order that the maker gives them.
+pub type TaskNos = Items<TaskNo>;
 
 /// One workflow instance, seen with the room that it has for more attempts. Moments are milliseconds.
 #[derive(Drop)]
@@ -37,7 +46,6 @@ pub struct Flow {
 impl Model for Flow {
     ghost use Rattle.std.specs.Coded.{codes};
     ghost use Rattle.wf_doc.specs.contracts.doc.Doc as doc;
-    ghost use Rattle.wf_machine.specs.State.{RisingFrom};
     ghost use Rattle.wf_machine.specs.contracts.definition.NodeKind as node_kind;
     ghost use Rattle.wf_flow.specs.Room.{FlowRoom};
 
@@ -45,28 +53,12 @@ impl Model for Flow {
 
     ghost coded = { Prim.hlevel (codes, doc.the_row.coded, node_kind.the_row.coded) };
 
-    ghost view = { λ f. record {
-      flow = record {
-        number = f.number;
-        def = f.def;
-        input = f.input;
-        variables = f.variables;
-        output = f.output;
-        status = f.status;
-        reason = f.reason;
-        correlation = f.correlation;
-        depth = f.depth;
-        parent = f.parent;
-        created = f.created;
-        started = f.started;
-        ended = f.ended;
-        noted = f.noted;
-        attempts = f.attempts.items;
-      };
-      spare = f.attempts.spare;
-    } };
+    ghost use Rattle.wf_flow.specs.Keeping.{IsSoundFlow};
+    ghost use Rattle.wf_flow.specs.FlowFields.{flow_shown};
 
-    ghost invariant = { λ f. RisingFrom 1 f.attempts.items };
+    ghost view = { λ f. record { flow = flow_shown f; spare = f.attempts.spare } };
+
+    ghost invariant = { λ f. IsSoundFlow (flow_shown f) };
 }
 
 impl Flow {
@@ -81,6 +73,9 @@ impl Flow {
         depth: u32,
         moment: u64,
     ) -> Flow
+        requires number { number.0 < 2 ^ 56 }
+        requires parent { Held (λ p. (p.0.0 < 2 ^ 56) × (p.1.0 < 2 ^ 56)) parent }
+        requires moment { IsMoment moment }
         ensures { result.flow ≡ new_flow number def input correlation parent depth moment }
     {
         Flow {
@@ -231,6 +226,20 @@ impl Flow {
         self.attempts.len() as u64
     }
 
+    /// That it can be kept, as a fact.
+    pub fn is_record(&self)
+        ensures { IsRecord self.now.flow }
+    {
+        let _number = self.number;
+    }
+
+    /// That its attempts are in their ranges, as a fact.
+    pub fn attempts_in_range(&self)
+        ensures { Each IsInRange self.now.flow.attempts }
+    {
+        let _number = self.number;
+    }
+
     /// The attempt at that place, counted from 0 by rising number.
     pub fn at(&self, place: u64) -> Option<&Attempt>
         ensures { option_copied result ≡ slice_get self.now.flow.attempts place }
@@ -248,6 +257,13 @@ impl Flow {
         }
     }
 
+    /// The numbers of the open attempts, rising.
+    pub fn open_attempts(&self, alloc: Global) -> Result<TaskNos, NoMemory>
+        ensures { IfOk result (λ numbers. numbers ≡ open_numbers self.now.flow.attempts) }
+    {
+        self.attempts.open(alloc)
+    }
+
     /// Makes room for `more` attempts.
     pub fn reserve(&mut self, more: u64) -> Result<(), NoMemory>
         ensures flow { self.new.flow ≡ self.old.flow }
@@ -261,22 +277,153 @@ impl Flow {
     pub fn add(&mut self, attempt: Attempt)
         requires room { 0 < self.old.spare }
         requires above { RisingTo 1 attempt.number.0 self.old.flow.attempts }
+        requires kept { IsRecord (record self.old.flow { attempts = self.old.flow.attempts ++ attempt ∷ [] }) }
         ensures flow { self.new.flow ≡ record self.old.flow { attempts = self.old.flow.attempts ++ attempt ∷ [] } }
         ensures room { self.old.spare ≤ self.new.spare + 1 }
     {
+        attempt.in_range();
         self.attempts.add(attempt);
     }
 
     /// Puts an attempt in the place of the one of its number, which it gives back. It takes no memory.
     pub fn replace(&mut self, attempt: Attempt) -> Attempt
-        requires { IsSome (attempt_numbered attempt.number self.old.flow.attempts) }
+        requires there { IsSome (attempt_numbered attempt.number self.old.flow.attempts) }
+        requires kept { IsRecord (record self.old.flow { attempts = with_attempt attempt self.old.flow.attempts }) }
         ensures old { attempt_numbered attempt.number self.old.flow.attempts ≡ Some result }
         ensures flow { self.new.flow ≡ record self.old.flow { attempts = with_attempt attempt self.old.flow.attempts } }
         ensures room { self.new.spare ≡ self.old.spare }
     {
+        attempt.in_range();
         match self.attempts.place(attempt.number()) {
             Some(place) => self.attempts.replace(place, attempt),
             None => attempt,
+        }
+    }
+
+    /// Ends it, and cancels its open attempts. It takes no memory.
+    pub fn end(&mut self, status: FlowStatus, moment: u64)
+        requires terminal { flow_is_open status ≡ false }
+        requires moment { IsMoment moment }
+        ensures flow { self.new.flow ≡ flow_ended status moment self.old.flow }
+        ensures room { self.new.spare ≡ self.old.spare }
+    {
+        self.status = status;
+        self.ended = Some(moment);
+        self.attempts.cancel_open(moment);
+    }
+
+    /// Takes an attempt that has ended out of the count: its node is seen as if it weren't there. It takes no memory.
+    pub fn supersede(&mut self, task: TaskNo)
+        requires { IsSomeAnd (attempt_numbered task self.old.flow.attempts) (λ a. task_is_open a.status ≡ false) }
+        ensures flow { IsSomeAnd (attempt_numbered task self.old.flow.attempts)
+            (λ a. self.new.flow ≡ record self.old.flow { attempts = with_attempt (record a { superseded = true }) self.old.flow.attempts }) }
+        ensures room { self.new.spare ≡ self.old.spare }
+    {
+        if let Some(place) = self.attempts.place(task) {
+            self.attempts.supersede(place);
+        }
+    }
+
+    /// Takes all attempts and variables away.
+    pub fn clear(&mut self, alloc: Global)
+        ensures flow { self.new.flow ≡ cleared self.old.flow }
+        ensures room { self.old.spare ≤ self.new.spare }
+    {
+        self.attempts.clear();
+        self.variables = empty_table(alloc);
+    }
+
+    /// Lets it run anew from the moment, without a reason, an end and an output.
+    pub fn reopen(&mut self, alloc: Global, moment: u64)
+        requires terminal { flow_is_open self.old.flow.status ≡ false }
+        requires moment { IsMoment moment }
+        ensures flow { self.new.flow ≡ reopened moment self.old.flow }
+        ensures room { self.new.spare ≡ self.old.spare }
+    {
+        self.status = FlowStatus::Running;
+        self.reason = empty_text(alloc);
+        self.started = moment;
+        self.ended = None;
+        self.output = empty_table(alloc);
+        self.noted = false;
+    }
+
+    /// Hands a SCHEDULED attempt out to a worker. It takes no memory.
+    pub fn hand_out(&mut self, task: TaskNo, worker: Text, moment: u64)
+        requires scheduled { IsSomeAnd (attempt_numbered task self.old.flow.attempts) (λ a. is_scheduled a.status ≡ true) }
+        requires moment { IsMoment moment }
+        ensures flow { IsSomeAnd (attempt_numbered task self.old.flow.attempts)
+            (λ a. self.new.flow ≡ record self.old.flow { attempts = with_attempt (handed_out moment worker a) self.old.flow.attempts }) }
+        ensures room { self.new.spare ≡ self.old.spare }
+    {
+        if let Some(place) = self.attempts.place(task) {
+            self.attempts.hand_out(place, worker, moment);
+        }
+    }
+
+    /// Takes what a worker tells of an attempt: false where the attempt has ended, and keeps what it has. It is
+    /// refused with NotFound where there is none of that number, and with NotUpdatable where the server alone
+    /// ends it. It takes no memory.
+    pub fn apply_result(
+        &mut self,
+        task: TaskNo,
+        outcome: TaskResult,
+        moment: u64,
+    ) -> Result<bool, Refusal>
+        requires status { is_result_status outcome.status ≡ true }
+        requires callback { outcome.callback ≤ 2147483647 }
+        requires moment { IsMoment moment }
+        ensures answer { result ≡ update_answer self.old.flow.def (attempt_numbered task self.old.flow.attempts) }
+        ensures applied { result ≡ Ok true → IsSomeAnd (attempt_numbered task self.old.flow.attempts)
+            (λ a. self.new.flow ≡ record self.old.flow {
+              attempts = with_attempt (result_applied moment (is_kind_at is_simple self.old.flow.def a.node) outcome a) self.old.flow.attempts;
+            }) }
+        ensures kept { result ≢ Ok true → self.new.flow ≡ self.old.flow }
+        ensures room { self.new.spare ≡ self.old.spare }
+    {
+        match self.update_answer(task) {
+            Ok(true) => {
+                self.take_result(task, outcome, moment);
+                Ok(true)
+            }
+            answer => answer,
+        }
+    }
+
+    /// What an update of that attempt is answered.
+    fn update_answer(&self, task: TaskNo) -> Result<bool, Refusal>
+        ensures { result ≡ update_answer self.now.flow.def (attempt_numbered task self.now.flow.attempts) }
+    {
+        match self.attempt(task) {
+            Some(attempt) => attempt_answer(&self.def, attempt),
+            None => Err(Refusal::NotFound),
+        }
+    }
+
+    /// Whether the node of that attempt is a SIMPLE one.
+    fn is_simple(&self, task: TaskNo) -> bool
+        ensures { result ≡ option_map_or (λ a. is_kind_at is_simple self.now.flow.def a.node) (attempt_numbered task self.now.flow.attempts) false }
+    {
+        match self.attempt(task) {
+            Some(attempt) => is_simple_at(&self.def, attempt.node()),
+            None => false,
+        }
+    }
+
+    fn take_result(&mut self, task: TaskNo, outcome: TaskResult, moment: u64)
+        requires status { is_result_status outcome.status ≡ true }
+        requires callback { outcome.callback ≤ 2147483647 }
+        requires moment { IsMoment moment }
+        requires taken { update_answer self.old.flow.def (attempt_numbered task self.old.flow.attempts) ≡ Ok true }
+        ensures flow { IsSomeAnd (attempt_numbered task self.old.flow.attempts)
+            (λ a. self.new.flow ≡ record self.old.flow {
+              attempts = with_attempt (result_applied moment (is_kind_at is_simple self.old.flow.def a.node) outcome a) self.old.flow.attempts;
+            }) }
+        ensures room { self.new.spare ≡ self.old.spare }
+    {
+        let simple = self.is_simple(task);
+        if let Some(place) = self.attempts.place(task) {
+            self.attempts.apply_result(place, simple, outcome, moment);
         }
     }
 
@@ -308,7 +455,9 @@ impl Flow {
         self.reason = value;
     }
 
+    /// Whether it is open stays: `end` and `reopen` change that.
     pub fn set_status(&mut self, value: FlowStatus)
+        requires { flow_is_open value ≡ flow_is_open self.old.flow.status }
         ensures flow { self.new.flow ≡ record self.old.flow { status = value } }
         ensures room { self.new.spare ≡ self.old.spare }
     {
@@ -316,6 +465,7 @@ impl Flow {
     }
 
     pub fn set_started(&mut self, value: u64)
+        requires { IsMoment value }
         ensures flow { self.new.flow ≡ record self.old.flow { started = value } }
         ensures room { self.new.spare ≡ self.old.spare }
     {
@@ -327,5 +477,19 @@ impl Flow {
         ensures room { self.new.spare ≡ self.old.spare }
     {
         self.noted = value;
+    }
+}
+
+/// What an update of the attempt is answered.
+fn attempt_answer(def: &FlowDef, attempt: &Attempt) -> Result<bool, Refusal>
+    ensures { result ≡ attempt_answer def.now attempt.now }
+{
+    if !attempt.status().is_open() {
+        return Ok(false);
+    }
+    if takes_update_at(def, attempt.node()) {
+        Ok(true)
+    } else {
+        Err(Refusal::NotUpdatable)
     }
 }

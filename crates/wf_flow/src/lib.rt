@@ -8,13 +8,17 @@ mod attempt;
 mod attempts;
 mod empty;
 mod flow;
+mod lasting;
 mod no_memory;
+mod nodes;
 #[cfg(test)]
 mod tests;
 
 pub use attempt::Attempt;
-pub use flow::Flow;
+pub use flow::{Flow, TaskNos};
 pub use no_memory::NoMemory;
+pub use nodes::{is_simple_at, node_at, takes_update_at};
+pub use wf_machine::TaskResult;
 
 /// Flows in an order that the holder gives them.
 pub type Flows = wf_doc::Items<Flow>;

@@ -1,16 +1,29 @@
 -- The place of an entry changes revisions alone.
-use Rattle.std.proofs.Common.{◌≡◌, ℕ, max, Bool, true, false, if◌then◌else◌, is_some, List, Option, None, Some, refl, sym, ap, ◌∙◌}
+use Rattle.std.proofs.Common.{◌≡◌, ℕ, max, Bool, true, false, not, if◌then◌else◌, is_some, List, [], ◌∷◌, ◌++◌, map, Option, None, Some, refl, sym, ap, ◌∙◌}
 use Rattle.std.proofs.lemmas.List.{length-map, map-append}
+use Rattle.std.specs.Prelude.{option_map}
+use Rattle.std.specs.List.{find}
+use Rattle.std.specs.Option.{option_map_or}
 use Rattle.wf_doc.specs.declared.doc.Doc.{Doc}
-use Rattle.wf_names.specs.declared.refusals.Refusal.TheVariants.{StoreFull}
+use Rattle.wf_names.specs.declared.ids.FlowNo.{FlowNo}
+use Rattle.wf_names.specs.declared.ids.TaskNo.{TaskNo}
+use Rattle.wf_names.specs.declared.refusals.Refusal.TheVariants.{NotFound, StoreFull, DocumentLimit, NotUpdatable}
+use Rattle.wf_names.specs.TaskStatus.{task_is_open}
 use Rattle.wf_wire.specs.declared.limits.Limits.{Limits}
 use Rattle.wf_machine.specs.declared.definition.FlowDef.{FlowDef}
+use Rattle.wf_machine.specs.declared.definition.TaskDef.{TaskDef}
+use Rattle.wf_machine.specs.declared.calling.TaskResult.{TaskResult}
 use Rattle.wf_machine.specs.declared.calling.Call.{Call}
-use Rattle.wf_machine.specs.declared.calling.Call.TheVariants.{AddFlowDef, Start}
+use Rattle.wf_machine.specs.declared.calling.Call.TheVariants.{PutTaskDefs, AddFlowDef, Start, GetFlow, Poll, GetTask, Update}
+use Rattle.wf_machine.specs.declared.calling.Reply.TheVariants.{Json, Nothing}
 use Rattle.wf_machine.specs.declared.calling.Entry.{Entry}
-use Rattle.wf_machine.specs.State.{State}
-use Rattle.wf_machine.specs.Calls.{Stepped, stepped, call_made, register, start, start_of, started, refused, is_full, flow_def_at, flow_def_for, step}
-use Rattle.wf_machine.specs.History.{stored}
+use Rattle.wf_machine.specs.State.{Attempt, Flow, Kept, State, attempt_numbered, with_attempt}
+use Rattle.wf_machine.specs.Records.{is_kind_at}
+use Rattle.wf_machine.specs.Tasks.{handed_out, takes_update}
+use Rattle.wf_machine.specs.Queues.{Waiting, waiting_in, all_waiting, first_waiting}
+use Rattle.wf_machine.specs.Documents.{task_document}
+use Rattle.wf_machine.specs.Calls.{Stepped, stepped, call_made, put_task_defs, register, start, start_of, started, refused, is_full, is_too_long, flow_def_at, flow_def_for, is_flow, has_attempt, flow_numbered, flow_of_task, with_kept, get_flow, get_task, task_read, poll, hand_over, update, update_of, is_wanted, flow_updated, task_updated, settled_with, step}
+use Rattle.wf_machine.specs.History.{unplaced, stored}
 
 -- what is stored of what a step leaves
 abbrev pub stored_step : Stepped → Stepped
@@ -23,28 +36,136 @@ stored-if b c x y x' y' same p q = ap (λ v. stored_step (if v then x else y)) s
     by_case true = p
     by_case false = q
 
+stored-found : {T U : Type 0} (g : T → U) (o : Option T) (f : T → Stepped) (f' : U → Stepped) (x x' : Stepped) → ((v : T) → stored_step (f v) ≡ f' (g v))
+    → stored_step x ≡ x' → stored_step (option_map_or f o x) ≡ option_map_or f' (option_map g o) x'
+stored-found g None f f' x x' p q = q
+stored-found g (Some v) f f' x x' p q = p v
+
+-- ---- flows without their revisions
+
+find-through : {T : Type 0} (f : T → T) (p : T → Bool) (xs : List T) → ((x : T) → p (f x) ≡ p x) → find p (map f xs) ≡ option_map f (find p xs)
+find-through f p [] same = refl
+find-through f p (x ∷ xs) same = rw (same x) (by_test (p x) (find-through f p xs same)) where
+  by_test : (b : Bool) → find p (map f xs) ≡ option_map f (find p xs) → (if b then Some (f x) else find p (map f xs)) ≡ option_map f (if b then Some x else find p xs)
+  by_test true h = refl
+  by_test false h = h
+
+waiting-stored : (name : List ℕ) (e : ℕ) (flows : List Kept) → all_waiting name e (map unplaced flows) ≡ all_waiting name e flows
+waiting-stored name e [] = refl
+waiting-stored name e (k ∷ ks) = ap (λ ws. waiting_in name e k.flow ++ ws) (waiting-stored name e ks)
+
+kept-stored : (place : ℕ) (f : Flow) (flows : List Kept)
+    → map unplaced (with_kept (record { flow = f; revision = place }) flows) ≡ with_kept (record { flow = f; revision = 0 }) (map unplaced flows)
+kept-stored place f [] = refl
+kept-stored place f (k ∷ ks) = rw (kept-stored place f ks) (by_test (is_flow f.number k)) where
+  by_test : (b : Bool)
+      → unplaced (if b then record { flow = f; revision = place } else k) ∷ with_kept (record { flow = f; revision = 0 }) (map unplaced ks)
+      ≡ (if b then record { flow = f; revision = 0 } else unplaced k) ∷ with_kept (record { flow = f; revision = 0 }) (map unplaced ks)
+  by_test true = refl
+  by_test false = refl
+
+-- ---- calls
+
+put-stored : (place e : ℕ) (defs : List TaskDef) (s : State) → stored_step (put_task_defs place e defs s) ≡ put_task_defs 0 e defs (stored s)
+put-stored place e [] s = refl
+put-stored place e (c ∷ cs) s = refl
+
 full-stored : (limits : Limits) (s : State) → is_full limits s ≡ is_full limits (stored s)
 full-stored limits s = rw length-map refl
 
-started-stored : (place e : ℕ) (def : FlowDef) (input : Doc) (correlation : List ℕ) (s : State)
-    → stored_step (started place e def input correlation s) ≡ started 0 e def input correlation (stored s)
-started-stored place e def input correlation s = rw map-append refl
+started-stored : (limits : Limits) (place e : ℕ) (def : FlowDef) (input : Doc) (correlation : List ℕ) (s : State)
+    → stored_step (started limits place e def input correlation s) ≡ started limits 0 e def input correlation (stored s)
+started-stored limits place e def input correlation s = rw map-append refl
 
 start_of-stored : (limits : Limits) (place e : ℕ) (o : Option FlowDef) (input : Doc) (correlation : List ℕ) (s : State)
     → stored_step (start_of limits place e o input correlation s) ≡ start_of limits 0 e o input correlation (stored s)
 start_of-stored limits place e None input correlation s = refl
 start_of-stored limits place e (Some def) input correlation s =
-    stored-if (is_full limits s) (is_full limits (stored s)) (refused StoreFull s) (started place e def input correlation s) (refused StoreFull (stored s))
-    (started 0 e def input correlation (stored s)) (full-stored limits s) refl (started-stored place e def input correlation s)
+    let long = is_too_long limits input in
+    stored-if (is_full limits s) (is_full limits (stored s)) (refused StoreFull s) (if long then refused DocumentLimit s else started limits place e def input correlation s)
+    (refused StoreFull (stored s)) (if long then refused DocumentLimit (stored s) else started limits 0 e def input correlation (stored s))
+    (full-stored limits s) refl
+    (stored-if long long (refused DocumentLimit s) (started limits place e def input correlation s) (refused DocumentLimit (stored s))
+    (started limits 0 e def input correlation (stored s)) refl refl (started-stored limits place e def input correlation s))
+
+flow_read-stored : (number : FlowNo) (tasks : Bool) (s : State) → stored_step (get_flow number tasks s) ≡ get_flow number tasks (stored s)
+unfolding get_flow
+flow_read-stored number tasks s =
+    rw (find-through unplaced (is_flow number) s.flows (λ k. refl))
+    (stored-found unplaced (flow_numbered number s.flows) _ _ (refused NotFound s) (refused NotFound (stored s)) (λ k. refl) refl)
+
+task-stored : (task : TaskNo) (s : State) (f : Flow) → stored_step (task_read task s f) ≡ task_read task (stored s) f
+task-stored task s f = by_found (attempt_numbered task f.attempts) where
+  by_found : (o : Option Attempt)
+      → stored_step (option_map_or (λ a. stepped s (Json (task_document s.mark f a))) o (refused NotFound s))
+      ≡ option_map_or (λ a. stepped (stored s) (Json (task_document s.mark f a))) o (refused NotFound (stored s))
+  by_found None = refl
+  by_found (Some a) = refl
+
+task_read-stored : (task : TaskNo) (s : State) → stored_step (get_task task s) ≡ get_task task (stored s)
+unfolding get_task
+task_read-stored task s =
+    rw (find-through unplaced (has_attempt task) s.flows (λ k. refl))
+    (stored-found unplaced (flow_of_task task s.flows) _ _ (refused NotFound s) (refused NotFound (stored s)) (λ (k : Kept). task-stored task s k.flow) refl)
+
+poll-stored : (place e : ℕ) (name worker : List ℕ) (s : State) → stored_step (poll place e name worker s) ≡ poll 0 e name worker (stored s)
+unfolding poll
+poll-stored place e name worker s = rw (waiting-stored name e s.flows) (by_found (first_waiting (all_waiting name e s.flows))) where
+  by_found : (o : Option Waiting)
+      → stored_step (option_map_or (λ w. hand_over place e name worker w s) o (stepped s Nothing))
+      ≡ option_map_or (λ w. hand_over 0 e name worker w (stored s)) o (stepped (stored s) Nothing)
+  by_found None = refl
+  by_found (Some w) = rw (kept-stored place (record w.flow { attempts = with_attempt (handed_out e worker w.attempt) w.flow.attempts }) s.flows) refl
+
+settled-stored : (limits : Limits) (place e : ℕ) (outcome : TaskResult) (f : Flow) (a : Attempt) (s : State)
+    → stored_step (settled_with limits place e outcome f a s) ≡ settled_with limits 0 e outcome f a (stored s)
+settled-stored limits place e outcome f a s = rw (kept-stored place _ s.flows) refl
+
+task_updated-stored : (limits : Limits) (place e : ℕ) (outcome : TaskResult) (f : Flow) (a : Attempt) (s : State)
+    → stored_step (task_updated limits place e outcome f a s) ≡ task_updated limits 0 e outcome f a (stored s)
+task_updated-stored limits place e outcome f a s =
+    let over = not (task_is_open a.status) in
+    let fixed = not (is_kind_at takes_update f.def a.node) in
+    stored-if over over _ _ _ _ refl refl
+    (stored-if fixed fixed (refused NotUpdatable s) (settled_with limits place e outcome f a s) (refused NotUpdatable (stored s))
+    (settled_with limits 0 e outcome f a (stored s)) refl refl (settled-stored limits place e outcome f a s))
+
+flow_updated-stored : (limits : Limits) (place e : ℕ) (task : TaskNo) (outcome : TaskResult) (f : Flow) (s : State)
+    → stored_step (flow_updated limits place e task outcome f s) ≡ flow_updated limits 0 e task outcome f (stored s)
+flow_updated-stored limits place e task outcome f s = by_found (attempt_numbered task f.attempts) where
+  by_found : (o : Option Attempt)
+      → stored_step (option_map_or (λ a. task_updated limits place e outcome f a s) o (refused NotFound s))
+      ≡ option_map_or (λ a. task_updated limits 0 e outcome f a (stored s)) o (refused NotFound (stored s))
+  by_found None = refl
+  by_found (Some a) = task_updated-stored limits place e outcome f a s
+
+update_of-stored : (limits : Limits) (place e : ℕ) (wanted : Option FlowNo) (task : TaskNo) (outcome : TaskResult) (k : Option Kept) (s : State)
+    → stored_step (update_of limits place e wanted task outcome k s) ≡ update_of limits 0 e wanted task outcome (option_map unplaced k) (stored s)
+update_of-stored limits place e wanted task outcome None s = refl
+update_of-stored limits place e wanted task outcome (Some k) s =
+    let own = is_wanted wanted k.flow.number in
+    stored-if own own (flow_updated limits place e task outcome k.flow s) (refused NotFound s) (flow_updated limits 0 e task outcome k.flow (stored s))
+    (refused NotFound (stored s)) refl (flow_updated-stored limits place e task outcome k.flow s) refl
+
+update-stored : (limits : Limits) (place e : ℕ) (wanted : Option FlowNo) (task : TaskNo) (outcome : TaskResult) (s : State)
+    → stored_step (update limits place e wanted task outcome s) ≡ update limits 0 e wanted task outcome (stored s)
+unfolding update
+update-stored limits place e wanted task outcome s =
+    rw (find-through unplaced (has_attempt task) s.flows (λ k. refl)) (update_of-stored limits place e wanted task outcome (flow_of_task task s.flows) s)
 
 -- a call at any place leaves of the stored state what it leaves at none
 call-stored : (limits : Limits) (place e : ℕ) (call : Call) (s : State) → stored_step (call_made limits place e call s) ≡ call_made limits 0 e call (stored s)
 unfolding register start
+call-stored limits place e (PutTaskDefs defs) s = put-stored place e defs s
 call-stored limits place e (AddFlowDef def) s =
     let found = is_some (flow_def_at def.name def.version s.flow_defs) in
     stored-if found found _ _ _ _ refl refl refl
 call-stored limits place e (Start name version input correlation) s =
     start_of-stored limits place e (flow_def_for name version s.flow_defs) input correlation s
+call-stored limits place e (GetFlow number tasks) s = flow_read-stored number tasks s
+call-stored limits place e (Poll name worker) s = poll-stored place e name worker s
+call-stored limits place e (GetTask task) s = task_read-stored task s
+call-stored limits place e (Update wanted task outcome) s = update-stored limits place e wanted task outcome s
 
 step-stored : (limits : Limits) (place : ℕ) (s : State) (entry : Entry) → stored_step (step limits place s entry) ≡ step limits 0 (stored s) entry
 step-stored limits place s entry =

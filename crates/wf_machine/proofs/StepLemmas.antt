@@ -1,33 +1,73 @@
 -- No call of the machine itself answers that memory is wanting.
-use Rattle.std.proofs.Common.{◌≡◌, ℕ, ◌<◌, ◌^◌, max, Bool, true, false, if◌then◌else◌, is_some, List, Option, None, Some, refl, sym, ap, ◌∙◌, arith}
-use Rattle.std.proofs.lemmas.Bool.Decides.{nat_tests}
+use Rattle.std.proofs.Common.{◌≡◌, ℕ, max, Bool, true, false, not, if◌then◌else◌, is_some, List, [], ◌∷◌, Option, None, Some, refl, sym, ap, ◌∙◌}
+use Rattle.std.specs.Option.{option_map_or}
 use Rattle.wf_doc.specs.declared.doc.Doc.{Doc}
-use Rattle.wf_names.specs.declared.refusals.Refusal.TheVariants.{Exists, StoreFull, NoMemory}
+use Rattle.wf_names.specs.declared.ids.FlowNo.{FlowNo}
+use Rattle.wf_names.specs.declared.ids.TaskNo.{TaskNo}
+use Rattle.wf_names.specs.declared.refusals.Refusal.TheVariants.{NotFound, Exists, StoreFull, DocumentLimit, NotUpdatable, NoMemory}
+use Rattle.wf_names.specs.TaskStatus.{task_is_open}
 use Rattle.wf_wire.specs.declared.limits.Limits.{Limits}
 use Rattle.wf_machine.specs.declared.definition.FlowDef.{FlowDef}
+use Rattle.wf_machine.specs.declared.definition.TaskDef.{TaskDef}
+use Rattle.wf_machine.specs.declared.calling.TaskResult.{TaskResult}
 use Rattle.wf_machine.specs.declared.calling.Call.{Call}
-use Rattle.wf_machine.specs.declared.calling.Call.TheVariants.{AddFlowDef, Start}
+use Rattle.wf_machine.specs.declared.calling.Call.TheVariants.{PutTaskDefs, AddFlowDef, Start, GetFlow, Poll, GetTask, Update}
 use Rattle.wf_machine.specs.declared.calling.Reply.{Reply}
 use Rattle.wf_machine.specs.declared.calling.Entry.{Entry}
-use Rattle.wf_machine.specs.State.{State}
-use Rattle.wf_machine.specs.Replies.{IsPrintable}
-use Rattle.wf_machine.specs.Calls.{Stepped, stepped, step, entry_of, call_made, register, start, start_of, started, refused, is_full, flow_def_at, flow_def_for, is_starved}
+use Rattle.wf_machine.specs.State.{Attempt, Flow, Kept, State, attempt_numbered}
+use Rattle.wf_machine.specs.Records.{is_kind_at}
+use Rattle.wf_machine.specs.Tasks.{takes_update}
+use Rattle.wf_machine.specs.Queues.{Waiting, next_waiting}
+use Rattle.wf_machine.specs.Calls.{Stepped, stepped, step, entry_of, call_made, put_task_defs, register, start, start_of, started, refused, is_full, is_too_long, flow_def_at, flow_def_for, flow_numbered, flow_of_task, get_flow, get_task, task_read, poll, hand_over, update, update_of, is_wanted, flow_updated, task_updated, settled_with, is_starved}
 
-starved-if : (b : Bool) (x y : Stepped) → is_starved x.reply ≡ false → is_starved y.reply ≡ false → is_starved (if b then x else y).reply ≡ false
-starved-if true x y p q = p
-starved-if false x y p q = q
+abbrev IsFed : Stepped → Type 0
+IsFed x = is_starved x.reply ≡ false
 
-starved-start_of : (limits : Limits) (place e : ℕ) (def : Option FlowDef) (input : Doc) (correlation : List ℕ) (s : State) → is_starved (start_of limits place e def input correlation s).reply ≡ false
-starved-start_of limits place e None input correlation s = refl
-starved-start_of limits place e (Some def) input correlation s =
-    starved-if (is_full limits s) (refused StoreFull s) (started place e def input correlation s) refl refl
+fed-if : (b : Bool) (x y : Stepped) → IsFed x → IsFed y → IsFed (if b then x else y)
+fed-if true x y p q = p
+fed-if false x y p q = q
+
+fed-found : {T : Type 0} (o : Option T) (f : T → Stepped) (x : Stepped) → ((v : T) → IsFed (f v)) → IsFed x → IsFed (option_map_or f o x)
+fed-found None f x p q = q
+fed-found (Some v) f x p q = p v
+
+fed-put : (place e : ℕ) (defs : List TaskDef) (s : State) → IsFed (put_task_defs place e defs s)
+fed-put place e [] s = refl
+fed-put place e (c ∷ cs) s = refl
+
+fed-start_of : (limits : Limits) (place e : ℕ) (def : Option FlowDef) (input : Doc) (correlation : List ℕ) (s : State) → IsFed (start_of limits place e def input correlation s)
+fed-start_of limits place e None input correlation s = refl
+fed-start_of limits place e (Some def) input correlation s =
+    fed-if (is_full limits s) (refused StoreFull s) _ refl
+    (fed-if (is_too_long limits input) (refused DocumentLimit s) (started limits place e def input correlation s) refl refl)
+
+fed-task_read : (task : TaskNo) (s : State) (f : Flow) → IsFed (task_read task s f)
+fed-task_read task s f = fed-found (attempt_numbered task f.attempts) _ (refused NotFound s) (λ a. refl) refl
+
+fed-task_updated : (limits : Limits) (place e : ℕ) (outcome : TaskResult) (f : Flow) (a : Attempt) (s : State) → IsFed (task_updated limits place e outcome f a s)
+fed-task_updated limits place e outcome f a s =
+    fed-if (not (task_is_open a.status)) _ _ refl
+    (fed-if (not (is_kind_at takes_update f.def a.node)) (refused NotUpdatable s) (settled_with limits place e outcome f a s) refl refl)
+
+fed-update_of : (limits : Limits) (place e : ℕ) (wanted : Option FlowNo) (task : TaskNo) (outcome : TaskResult) (k : Option Kept) (s : State) → IsFed (update_of limits place e wanted task outcome k s)
+fed-update_of limits place e wanted task outcome None s = refl
+fed-update_of limits place e wanted task outcome (Some k) s =
+    fed-if (is_wanted wanted k.flow.number) (flow_updated limits place e task outcome k.flow s) (refused NotFound s)
+    (fed-found (attempt_numbered task k.flow.attempts) _ (refused NotFound s) (λ a. fed-task_updated limits place e outcome k.flow a s) refl) refl
 
 pub never_starved : (limits : Limits) (place e : ℕ) (call : Call) (s : State) → is_starved (call_made limits place e call s).reply ≡ false
-unfolding register start
+unfolding register start get_flow get_task poll update
+never_starved limits place e (PutTaskDefs defs) s = fed-put place e defs s
 never_starved limits place e (AddFlowDef def) s =
-    starved-if (is_some (flow_def_at def.name def.version s.flow_defs)) (refused Exists s) _ refl refl
+    fed-if (is_some (flow_def_at def.name def.version s.flow_defs)) (refused Exists s) _ refl refl
 never_starved limits place e (Start name version input correlation) s =
-    starved-start_of limits place e (flow_def_for name version s.flow_defs) input correlation s
+    fed-start_of limits place e (flow_def_for name version s.flow_defs) input correlation s
+never_starved limits place e (GetFlow number tasks) s = fed-found (flow_numbered number s.flows) _ (refused NotFound s) (λ k. refl) refl
+never_starved limits place e (Poll name worker) s = fed-found (next_waiting name e s.flows) _ _ (λ w. refl) refl
+never_starved limits place e (GetTask task) s =
+    fed-found (flow_of_task task s.flows) _ (refused NotFound s) (λ (k : Kept). fed-task_read task s k.flow) refl
+never_starved limits place e (Update wanted task outcome) s =
+    fed-update_of limits place e wanted task outcome (flow_of_task task s.flows) s
 
 -- where the machine's call was made, its entry isn't starved
 pub made_step : (limits : Limits) (place caller moment : ℕ) (call : Call) (s new : State) (reply : Reply)
@@ -36,27 +76,3 @@ made_step limits place caller moment call s new reply made =
     let made_call = call_made limits place (max s.last moment) call s in
     let fed : is_starved reply ≡ false = ap (λ (x : Stepped). is_starved x.reply) made ∙ never_starved limits place (max s.last moment) call s in
     made ∙ sym (ap (λ b. if b then refused NoMemory s else made_call) fed)
-
-printable-if : (b : Bool) (x y : Stepped) → IsPrintable x.reply → (b ≡ false → IsPrintable y.reply) → IsPrintable (if b then x else y).reply
-printable-if true x y p q = p
-printable-if false x y p q = q refl
-
-room_left : (limits : Limits) (s : State) → is_full limits s ≡ false → s.next_flow < 2 ^ 56
-room_left limits s free = grind (arith, nat_tests)
-
-printable-start_of : (limits : Limits) (place e : ℕ) (def : Option FlowDef) (input : Doc) (correlation : List ℕ) (s : State) → IsPrintable (start_of limits place e def input correlation s).reply
-printable-start_of limits place e None input correlation s = tt
-printable-start_of limits place e (Some def) input correlation s =
-    printable-if (is_full limits s) (refused StoreFull s) (started place e def input correlation s) tt (room_left limits s)
-
-printable-call : (limits : Limits) (place e : ℕ) (call : Call) (s : State) → IsPrintable (call_made limits place e call s).reply
-unfolding register start
-printable-call limits place e (AddFlowDef def) s =
-    printable-if (is_some (flow_def_at def.name def.version s.flow_defs)) (refused Exists s) _ tt (λ _. tt)
-printable-call limits place e (Start name version input correlation) s =
-    printable-start_of limits place e (flow_def_for name version s.flow_defs) input correlation s
-
--- the number of an id that a step answers fits its text
-pub printable-step : (limits : Limits) (place : ℕ) (s : State) (entry : Entry) → IsPrintable (step limits place s entry).reply
-printable-step limits place s entry =
-    printable-if entry.starved (refused NoMemory s) _ tt (λ _. printable-call limits place (max s.last entry.moment) entry.call s)

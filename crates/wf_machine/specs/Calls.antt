@@ -1,21 +1,36 @@
 -- One step of the machine: what each call makes of the state, and its reply.
-use Rattle.std.specs.Prelude.{ℕ, ◌+◌, ◌^◌, ◌==◌, ◌&&◌, ◌||◌, max, nat_eq, nat_le, Bool, true, false, if◌then◌else◌, is_some, List, [], ◌∷◌, ◌++◌, length, Option, None, Some}
+use Rattle.std.specs.Prelude.{◌≡◌, ℕ, ◌+◌, ◌≤◌, ◌^◌, ◌==◌, ◌&&◌, ◌||◌, max, nat_le, nat_lt, Bool, true, false, not, if◌then◌else◌, is_some, List, [], ◌∷◌, ◌++◌, length, map, Option, None, Some}
 use Rattle.std.specs.List.{find}
-use Rattle.std.specs.Cmp.Lexicographic.{pointwise, slice_cmp}
+use Rattle.std.specs.Option.{option_map_or}
+use Rattle.std.specs.Cmp.Lexicographic.{slice_cmp}
 use Rattle.std.specs.Ordering.{nat_cmp, match_ordering, ordering_then}
 use Rattle.std.specs.declared.cmp.Ordering.{Ordering}
 use Rattle.wf_doc.specs.declared.doc.Doc.{Doc}
+use Rattle.wf_doc.specs.Json.{printed}
+use Rattle.wf_names.specs.declared.ids.FlowNo.{FlowNo}
+use Rattle.wf_names.specs.declared.ids.TaskNo.{TaskNo}
 use Rattle.wf_names.specs.declared.ids.IdKind.TheVariants as kind
 use Rattle.wf_names.specs.declared.refusals.Refusal.{Refusal}
-use Rattle.wf_names.specs.declared.refusals.Refusal.TheVariants.{NotFound, Exists, StoreFull, NoMemory}
+use Rattle.wf_names.specs.declared.refusals.Refusal.TheVariants.{NotFound, Exists, NotUpdatable, StoreFull, DocumentLimit, NoMemory}
+use Rattle.wf_names.specs.TaskStatus.{task_is_open}
 use Rattle.wf_wire.specs.declared.limits.Limits.{Limits}
 use Rattle.wf_machine.specs.declared.definition.FlowDef.{FlowDef}
+use Rattle.wf_machine.specs.declared.definition.TaskDef.{TaskDef}
+use Rattle.wf_machine.specs.declared.calling.TaskResult.{TaskResult}
 use Rattle.wf_machine.specs.declared.calling.Call.{Call}
-use Rattle.wf_machine.specs.declared.calling.Call.TheVariants.{AddFlowDef, Start}
+use Rattle.wf_machine.specs.declared.calling.Call.TheVariants.{PutTaskDefs, AddFlowDef, Start, GetFlow, Poll, GetTask, Update}
 use Rattle.wf_machine.specs.declared.calling.Reply.{Reply}
-use Rattle.wf_machine.specs.declared.calling.Reply.TheVariants.{Accepted, Id, Refused}
+use Rattle.wf_machine.specs.declared.calling.Reply.TheVariants.{Accepted, Id, Json, Nothing, Refused}
 use Rattle.wf_machine.specs.declared.calling.Entry.{Entry}
-use Rattle.wf_machine.specs.State.{Kept, State, new_flow}
+use Rattle.wf_machine.specs.Text.{same_text}
+use Rattle.wf_machine.specs.State.{Attempt, Flow, Kept, State, attempt_numbered, new_flow, with_attempt}
+use Rattle.wf_machine.specs.Sight.{scene_in}
+use Rattle.wf_machine.specs.Rules.{Turn, decide}
+use Rattle.wf_machine.specs.Plans.{turn_at}
+use Rattle.wf_machine.specs.Records.{is_kind_at, is_simple}
+use Rattle.wf_machine.specs.Tasks.{handed_out, is_result_status, result_applied, takes_update}
+use Rattle.wf_machine.specs.Queues.{Waiting, next_waiting, with_hand}
+use Rattle.wf_machine.specs.Documents.{flow_document, task_document}
 
 -- what a step leaves, and its reply
 pub record Stepped : Type 0 where
@@ -27,10 +42,6 @@ stepped s reply = record { state = s; reply = reply }
 
 abbrev pub refused : Refusal → State → Stepped
 refused r s = record { state = s; reply = Refused r }
-
--- the same text, byte by byte
-abbrev pub same_text : List ℕ → List ℕ → Bool
-same_text a b = pointwise nat_eq a b
 
 -- ---- registered workflows
 
@@ -77,32 +88,155 @@ register place e def s =
     if is_some (flow_def_at def.name def.version s.flow_defs) then refused Exists s
     else record { state = record s { last = e; flow_defs = with_flow_def def s.flow_defs; defs_revision = place }; reply = Accepted }
 
+-- the list in the order of names, with the task in it in place of one of its name
+abbrev pub with_task_def : TaskDef → List TaskDef → List TaskDef
+with_task_def c [] = c ∷ []
+with_task_def c (d ∷ ds) = match_ordering (slice_cmp nat_cmp c.name d.name) (c ∷ d ∷ ds) (c ∷ ds) (d ∷ with_task_def c ds)
+
+-- of two of the same name the later counts
+abbrev pub with_task_defs : List TaskDef → List TaskDef → List TaskDef
+with_task_defs [] ds = ds
+with_task_defs (c ∷ cs) ds = with_task_defs cs (with_task_def c ds)
+
+-- an empty list registers nothing
+abbrev pub put_task_defs : ℕ → ℕ → List TaskDef → State → Stepped
+put_task_defs place e [] s = stepped s Accepted
+put_task_defs place e (c ∷ cs) s =
+    stepped (record s { last = e; task_defs = with_task_defs (c ∷ cs) s.task_defs; defs_revision = place }) Accepted
+
 -- the store holds as many flows as it may, or no number is left
 abbrev pub is_full : Limits → State → Bool
 is_full limits s = nat_le limits.flows (length s.flows) || nat_le (2 ^ 56) s.next_flow
 
--- a new flow of the definition, under the next number
-abbrev pub started : ℕ → ℕ → FlowDef → Doc → List ℕ → State → Stepped
-started place e def input correlation s =
-    let kept : Kept = record { flow = new_flow (record { 0 = s.next_flow }) def input correlation None 0 e; revision = place } in
+-- an input whose text is longer than may be
+abbrev pub is_too_long : Limits → Doc → Bool
+is_too_long limits input = nat_lt limits.document (length (printed input))
+
+-- a flow as it is decided in a state at the moment e
+abbrev pub decided : Limits → ℕ → Flow → State → Turn
+decided limits e flow s = decide limits (scene_in s) e (turn_at flow s.next_task)
+
+-- a new flow of the definition, under the next number, is decided
+abbrev pub started : Limits → ℕ → ℕ → FlowDef → Doc → List ℕ → State → Stepped
+started limits place e def input correlation s =
+    let turn = decided limits e (new_flow (record { 0 = s.next_flow }) def input correlation None 0 e) s in
+    let kept : Kept = record { flow = turn.flow; revision = place } in
     record {
-      state = record s { last = e; next_flow = s.next_flow + 1; flows = s.flows ++ kept ∷ [] };
+      state = record s { last = e; next_flow = s.next_flow + 1; next_task = turn.next_task; flows = s.flows ++ kept ∷ [] };
       reply = Id kind.Flow s.next_flow;
     }
 
 abbrev pub start_of : Limits → ℕ → ℕ → Option FlowDef → Doc → List ℕ → State → Stepped
 start_of limits place e None input correlation s = refused NotFound s
 start_of limits place e (Some def) input correlation s =
-    if is_full limits s then refused StoreFull s else started place e def input correlation s
+    if is_full limits s then refused StoreFull s
+    else if is_too_long limits input then refused DocumentLimit s
+    else started limits place e def input correlation s
 
 unfoldable pub start : Limits → ℕ → ℕ → List ℕ → Option ℕ → Doc → List ℕ → State → Stepped
 start limits place e name version input correlation s =
     start_of limits place e (flow_def_for name version s.flow_defs) input correlation s
 
+-- ---- kept flows
+
+abbrev pub is_flow : FlowNo → Kept → Bool
+is_flow number k = k.flow.number.0 == number.0
+
+-- the flow of that number
+abbrev pub flow_numbered : FlowNo → List Kept → Option Kept
+flow_numbered number flows = find (is_flow number) flows
+
+abbrev pub has_attempt : TaskNo → Kept → Bool
+has_attempt task k = is_some (attempt_numbered task k.flow.attempts)
+
+-- the flow that has the attempt of that number
+abbrev pub flow_of_task : TaskNo → List Kept → Option Kept
+flow_of_task task flows = find (has_attempt task) flows
+
+-- the flows with this one in place of that of its number
+abbrev pub with_kept : Kept → List Kept → List Kept
+with_kept k flows = map (λ x. if is_flow k.flow.number x then k else x) flows
+
+-- a kept flow is changed, as the entry at that place
+abbrev pub with_flow : ℕ → Flow → State → State
+with_flow place flow s = record s { flows = with_kept (record { flow = flow; revision = place }) s.flows }
+
+-- ---- reading
+
+unfoldable pub get_flow : FlowNo → Bool → State → Stepped
+get_flow number tasks s =
+    option_map_or (λ (k : Kept). stepped s (Json (flow_document s.mark tasks k.flow))) (flow_numbered number s.flows) (refused NotFound s)
+
+abbrev pub task_read : TaskNo → State → Flow → Stepped
+task_read task s f =
+    option_map_or (λ a. stepped s (Json (task_document s.mark f a))) (attempt_numbered task f.attempts) (refused NotFound s)
+
+unfoldable pub get_task : TaskNo → State → Stepped
+get_task task s = option_map_or (λ (k : Kept). task_read task s k.flow) (flow_of_task task s.flows) (refused NotFound s)
+
+-- ---- hand-outs
+
+-- the attempt is handed out, and the hand-out is noted
+abbrev pub hand_over : ℕ → ℕ → List ℕ → List ℕ → Waiting → State → Stepped
+hand_over place e name worker w s =
+    let given = handed_out e worker w.attempt in
+    let flow = record w.flow { attempts = with_attempt given w.flow.attempts } in
+    stepped (record (with_flow place flow s) { last = e; hands = with_hand name e s.hands }) (Json (task_document s.mark flow given))
+
+-- a poll decides nothing
+unfoldable pub poll : ℕ → ℕ → List ℕ → List ℕ → State → Stepped
+poll place e name worker s =
+    option_map_or (λ w. hand_over place e name worker w s) (next_waiting name e s.flows) (stepped s Nothing)
+
+-- ---- updates
+
+abbrev pub is_wanted : Option FlowNo → FlowNo → Bool
+is_wanted None number = true
+is_wanted (Some wanted) number = wanted.0 == number.0
+
+-- the attempt takes the result, and its flow is decided
+abbrev pub settled_with : Limits → ℕ → ℕ → TaskResult → Flow → Attempt → State → Stepped
+settled_with limits place e outcome f a s =
+    let applied = result_applied e (is_kind_at is_simple f.def a.node) outcome a in
+    let turn = decided limits e (record f { attempts = with_attempt applied f.attempts }) s in
+    stepped (record (with_flow place turn.flow s) { last = e; next_task = turn.next_task }) (Id kind.Task a.number.0)
+
+-- an attempt that has ended keeps what it has
+abbrev pub task_updated : Limits → ℕ → ℕ → TaskResult → Flow → Attempt → State → Stepped
+task_updated limits place e outcome f a s =
+    if not (task_is_open a.status) then stepped s (Id kind.Task a.number.0)
+    else if not (is_kind_at takes_update f.def a.node) then refused NotUpdatable s
+    else settled_with limits place e outcome f a s
+
+abbrev pub flow_updated : Limits → ℕ → ℕ → TaskNo → TaskResult → Flow → State → Stepped
+flow_updated limits place e task outcome f s =
+    option_map_or (λ a. task_updated limits place e outcome f a s) (attempt_numbered task f.attempts) (refused NotFound s)
+
+abbrev pub update_of : Limits → ℕ → ℕ → Option FlowNo → TaskNo → TaskResult → Option Kept → State → Stepped
+update_of limits place e wanted task outcome None s = refused NotFound s
+update_of limits place e wanted task outcome (Some k) s =
+    if is_wanted wanted k.flow.number then flow_updated limits place e task outcome k.flow s else refused NotFound s
+
+unfoldable pub update : Limits → ℕ → ℕ → Option FlowNo → TaskNo → TaskResult → State → Stepped
+update limits place e wanted task outcome s = update_of limits place e wanted task outcome (flow_of_task task s.flows) s
+
+-- ---- steps
+
+-- a call that a request can be: a result has one of the statuses that a worker may tell, and a delay of at most 2147483647
+-- seconds
+abbrev pub IsProper : Call → Type 0
+IsProper (Update wanted task outcome) = (is_result_status outcome.status ≡ true) × (outcome.callback ≤ 2147483647)
+IsProper call = Unit {0}
+
 -- what the call makes of the state at the moment e, as the entry at that place
 abbrev pub call_made : Limits → ℕ → ℕ → Call → State → Stepped
+call_made limits place e (PutTaskDefs defs) s = put_task_defs place e defs s
 call_made limits place e (AddFlowDef def) s = register place e def s
 call_made limits place e (Start name version input correlation) s = start limits place e name version input correlation s
+call_made limits place e (GetFlow number tasks) s = get_flow number tasks s
+call_made limits place e (Poll name worker) s = poll place e name worker s
+call_made limits place e (GetTask task) s = get_task task s
+call_made limits place e (Update wanted task outcome) s = update limits place e wanted task outcome s
 
 -- one step: a call acts at its moment, or at that of the last change where that is later; a starved entry
 -- changes nothing

@@ -1,7 +1,17 @@
 -- The definitions of the machine.
+pub mod Text
 pub mod State
+pub mod Sight
+pub mod Marks
+pub mod Rules
+pub mod Records
+pub mod Plans
+pub mod Tasks
+pub mod Queues
+pub mod Documents
 pub mod Calls
 pub mod History
 pub mod Replies
+pub mod Moments
 pub mod Requests
 pub mod Serving

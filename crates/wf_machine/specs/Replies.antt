@@ -10,7 +10,7 @@ use Rattle.wf_names.specs.Refusal.{refusal_code, refusal_status, refusal_message
 use Rattle.wf_machine.specs.declared.calling.Reply.{Reply}
 use Rattle.wf_machine.specs.declared.calling.Reply.TheVariants.{Accepted, Id, Json, Nothing, Refused}
 use Rattle.wf_machine.specs.declared.faulting.HttpFault.{HttpFault}
-use Rattle.wf_machine.specs.declared.faulting.HttpFault.TheVariants.{BadFrame, Coding, HeadTooLarge, BodyTooLarge, NotBuilt, NoMemory}
+use Rattle.wf_machine.specs.declared.faulting.HttpFault.TheVariants.{BadFrame, Coding, HeadTooLarge, BodyTooLarge, BadMoment, NotBuilt, NoMemory}
 
 -- a reply's status, its body and the body's media type
 pub record Response : Type 0 where
@@ -94,6 +94,7 @@ fault_row BadFrame = (codes "BAD_FRAME", 400, codes "not an HTTP message")
 fault_row Coding = (codes "CODING", 501, codes "unknown transfer coding")
 fault_row HeadTooLarge = (codes "HEAD_TOO_LARGE", 431, codes "the head is too large")
 fault_row BodyTooLarge = (codes "BODY_TOO_LARGE", 413, codes "the body is too large")
+fault_row BadMoment = (codes "BAD_MOMENT", 400, codes "Moment-Ms is not a moment")
 fault_row NotBuilt = (codes "NOT_BUILT", 501, codes "not built yet")
 fault_row NoMemory = (codes "NO_MEMORY", 500, codes "no memory")
 

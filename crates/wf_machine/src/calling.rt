@@ -1,12 +1,27 @@
 //! Calls of the machine, replies to them, and the entries of its history.
 
-use crate::definition::FlowDef;
+use crate::definition::{FlowDef, TaskDefs};
 use wf_doc::{Doc, Text};
-use wf_names::{IdKind, Refusal};
+use wf_names::{FlowNo, IdKind, Refusal, TaskNo, TaskStatus};
+
+/// What a worker tells of an attempt. The status is IN_PROGRESS, COMPLETED, FAILED or FAILED_WITH_TERMINAL_ERROR.
+#[derive(Drop)]
+pub struct TaskResult {
+    pub status: TaskStatus,
+    pub output: Doc,
+    /// Empty where nothing is said.
+    pub reason: Text,
+    /// Seconds until an attempt that goes on is handed out again.
+    pub callback: u32,
+    /// Who worked on it, where that is told.
+    pub worker: Option<Text>,
+}
 
 /// A call of the machine.
 #[derive(Drop)]
 pub enum Call {
+    /// Registers tasks, each in place of one of its name.
+    PutTaskDefs(TaskDefs),
     /// Registers a workflow under its name and version.
     AddFlowDef(FlowDef),
     /// Starts a workflow: without a version, the greatest that is registered.
@@ -15,6 +30,18 @@ pub enum Call {
         version: Option<u32>,
         input: Doc,
         correlation: Text,
+    },
+    /// Reads a flow, and its attempts where that is asked for.
+    GetFlow(FlowNo, bool),
+    /// Hands out an attempt at the tasks of that name, to that worker.
+    Poll(Text, Text),
+    /// Reads an attempt.
+    GetTask(TaskNo),
+    /// Tells what came of an attempt. A flow that is given has to be the attempt's own.
+    Update {
+        flow: Option<FlowNo>,
+        task: TaskNo,
+        outcome: TaskResult,
     },
 }
 

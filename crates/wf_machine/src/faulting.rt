@@ -9,6 +9,8 @@ pub enum HttpFault {
     Coding,
     HeadTooLarge,
     BodyTooLarge,
+    /// The field Moment-Ms is repeated, or isn't a moment.
+    BadMoment,
     /// The request is of no kind that is built.
     NotBuilt,
     NoMemory,

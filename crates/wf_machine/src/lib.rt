@@ -4,19 +4,24 @@
 //! milliseconds; what is counted in seconds says so.
 #![tactic(auto)]
 
+mod acting;
 mod calling;
 mod copying;
 mod definition;
 mod faulting;
+pub mod laws;
 mod no_memory;
 mod sight;
 mod timed;
+mod walking;
 
-pub use calling::{Call, Entry, Reply};
+pub use acting::{Act, NewAttempt};
+pub use calling::{Call, Entry, Reply, TaskResult};
 pub use definition::{
     Branch, Case, Cases, Count, FlowDef, FlowDefs, Node, NodeKind, Nodes, TaskDef, TaskDefs,
 };
 pub use faulting::HttpFault;
 pub use no_memory::NoMemory;
-pub use sight::{ChildState, HandList, Standing, View};
+pub use sight::{ChildState, HandList, View};
 pub use timed::{Cause, Clocked, RetryLogic, TaskPolicy, Timing};
+pub use walking::{Mark, Next};

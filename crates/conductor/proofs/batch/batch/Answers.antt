@@ -1,5 +1,6 @@
 use Rattle.std.proofs.Common.{[], min, inl, refl, sym, ap, subst, ◌∙◌}
-use Rattle.conductor.specs.Runs.{IsStandard, first_state, last_moment}
+use Rattle.conductor.specs.Runs.{IsStandard, first_state}
+use Rattle.wf_machine.specs.Moments.{last_moment}
 use Rattle.conductor.proofs.CompleteLemmas.{complete_run}
 use Rattle.conductor.proofs.StandardLemmas.{standard, is_standard}
 use Rattle.conductor.proofs.TurnLemmas.{over_start, over_starved}
@@ -38,7 +39,7 @@ returns-in-Err-clause-run g c = λ command. (
   (
     is_standard,
     (λ readings told. c.min-moment.ensures ∙ ap (λ n. min n last_moment) (c.now.ensures.reading readings told).0),
-    over_starved standard c.min-moment.result (g.R.Source.left c.args.source.now) (g.W.Sink.taken c.args.sink.now) 0 [] (g.R.Source.left c.args.source.now) first_state (g.W.Sink.taken c.args.sink.now)
+    over_starved standard c.min-moment.result (g.R.Source.left c.args.source.now) (g.W.Sink.taken c.args.sink.now) 0 [] (g.R.Source.left c.args.source.now) first_state c.min-moment.result (g.W.Sink.taken c.args.sink.now)
         (over_start standard c.min-moment.result (g.R.Source.left c.args.source.now) (g.W.Sink.taken c.args.sink.now) 0 [] first_state refl refl refl),
   ),
 )

@@ -4,4 +4,4 @@ use Rattle.wf_flow.proofs.flow.Flow.attempt.Goals as goal
 
 pub returns-in-Some : goal.returns-in-Some
 returns-in-Some c =
-    rw (← c.self.view_is) (c.get.ensures ∙ numbered_at 1 c.args.task _ c.in-Some.place c.self.invariant c.in-Some.ensures.some)
+    rw (← c.self.view_is) (c.get.ensures ∙ numbered_at 1 c.args.task _ c.in-Some.place c.self.invariant.rising c.in-Some.ensures.some)

@@ -1,0 +1,5 @@
+pub mod RegistryLemmas
+pub mod SearchLemmas
+pub mod IndexLemmas
+pub mod FlowLemmas
+pub mod HandLemmas

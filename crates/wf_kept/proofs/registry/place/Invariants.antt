@@ -1,0 +1,6 @@
+use Rattle.std.proofs.Common.{◌≡◌, ◌++◌, take, drop}
+use Rattle.wf_machine.specs.Calls.{with_flow_def}
+use Rattle.wf_kept.proofs.registry.place.Given as goal
+
+abbrev pub invariant-loop-i : goal.invariant-loop-i
+invariant-loop-i l = with_flow_def l.def l.defs ≡ take l.i l.defs ++ with_flow_def l.def (drop l.i l.defs)

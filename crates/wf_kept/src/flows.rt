@@ -1,0 +1,200 @@
+//! Kept flows, found by their numbers and by those of their attempts.
+
+ghost use Rattle.std.specs.Prelude.{◌≡◌, ◌+◌, ◌<◌, ◌≤◌, ◌^◌, [], ◌∷◌, ◌++◌, length, option_map, slice_get, IfNone, IfSome, None, OnOk, Some};
+ghost use Rattle.std.specs.List.{All};
+ghost use Rattle.std.specs.Option.{option_copied};
+ghost use Rattle.wf_machine.specs.State.{RisingTo};
+ghost use Rattle.wf_machine.specs.Calls.{flow_numbered, flow_of_task, with_kept};
+ghost use Rattle.wf_kept.specs.Flows.{AreAttemptsBelow, IsGrownFlow, IsKeptIn, all_kept, attempt_count, flow_number, kept, new_attempts};
+ghost use Rattle.wf_kept.specs.Rising.{IsPlaceOf, Rises, RisesTo};
+
+use crate::index::{Placed, add_rows, flow_of};
+use crate::kept::KeptFlow;
+use crate::no_memory::NoMemory;
+use crate::roomy::Roomy;
+use std::alloc::Global;
+use std::marker::Model;
+use wf_flow::Flow;
+use wf_names::{FlowNo, TaskNo};
+
+/// The kept flows by rising number, and the numbers that come next. An index tells which flow an attempt is in.
+#[derive(Drop)]
+pub struct KeptFlows {
+    flows: Roomy<KeptFlow>,
+    index: Roomy<Placed>,
+    next_flow: u64,
+    next_task: u64,
+}
+
+impl Model for KeptFlows {
+    ghost use Rattle.std.specs.Coded.{codes};
+    ghost use Rattle.wf_doc.specs.contracts.doc.Doc as doc;
+    ghost use Rattle.wf_machine.specs.contracts.definition.NodeKind as node_kind;
+    ghost use Rattle.wf_kept.specs.Flows.{FlowTable, all_kept};
+    ghost use Rattle.wf_kept.specs.Index.{AreTied};
+
+    ghost Value = { FlowTable };
+
+    ghost coded = { Prim.hlevel (codes, doc.the_row.coded, node_kind.the_row.coded) };
+
+    ghost view = { λ t. record {
+      kept = all_kept t.flows.items;
+      next_flow = t.next_flow;
+      next_task = t.next_task;
+      spare_flows = t.flows.spare;
+      spare_tasks = t.index.spare;
+    } };
+
+    ghost invariant = { λ t. AreTied (all_kept t.flows.items) t.index.items t.next_flow t.next_task };
+}
+
+impl KeptFlows {
+    /// No flows; the first flow and the first attempt will have number 1.
+    pub fn new(alloc: Global) -> KeptFlows
+        ensures kept { result.kept ≡ [] }
+        ensures next_flow { result.next_flow ≡ 1 }
+        ensures next_task { result.next_task ≡ 1 }
+    {
+        KeptFlows {
+            flows: Roomy::new(alloc),
+            index: Roomy::new(alloc),
+            next_flow: 1,
+            next_task: 1,
+        }
+    }
+
+    /// The kept flows, by rising number.
+    pub fn as_slice(&self) -> &[KeptFlow]
+        ensures value { all_kept result.now ≡ self.now.kept }
+        ensures rising { RisesTo flow_number 1 self.now.next_flow self.now.kept }
+        ensures attempts { All (AreAttemptsBelow self.now.next_task) self.now.kept }
+    {
+        self.flows.as_slice()
+    }
+
+    /// How many flows are kept.
+    pub fn len(&self) -> usize
+        ensures { result ≡ length self.now.kept }
+    {
+        self.flows.as_slice().len()
+    }
+
+    /// The number of the next flow; at 2^56 none is left.
+    pub fn next_flow(&self) -> u64
+        ensures value { result ≡ self.now.next_flow }
+        ensures range { (1 ≤ self.now.next_flow) × (self.now.next_flow ≤ 2 ^ 56) }
+    {
+        self.next_flow
+    }
+
+    /// The number of the next attempt; at 2^56 none is left.
+    pub fn next_task(&self) -> u64
+        ensures value { result ≡ self.now.next_task }
+        ensures range { (1 ≤ self.now.next_task) × (self.now.next_task ≤ 2 ^ 56) }
+    {
+        self.next_task
+    }
+
+    /// The flow of that number.
+    pub fn flow(&self, number: FlowNo) -> Option<&KeptFlow>
+        ensures { option_map kept (option_copied result) ≡ flow_numbered number self.now.kept }
+    {
+        flow_in(self.flows.as_slice(), number)
+    }
+
+    /// The flow that has the attempt of that number.
+    pub fn flow_of_task(&self, task: TaskNo) -> Option<&KeptFlow>
+        ensures flow { option_map kept (option_copied result) ≡ flow_of_task task self.now.kept }
+        ensures itself { IfSome result (λ k. IsKeptIn self.now (kept k.now)) }
+    {
+        match flow_of(self.index.as_slice(), task) {
+            Some(number) => flow_in(self.flows.as_slice(), number),
+            None => None,
+        }
+    }
+
+    /// Makes room for that many flows, and for that many attempts in the index.
+    pub fn reserve(&mut self, flows: usize, tasks: usize) -> Result<(), NoMemory>
+        ensures kept { self.new.kept ≡ self.old.kept }
+        ensures next_flow { self.new.next_flow ≡ self.old.next_flow }
+        ensures next_task { self.new.next_task ≡ self.old.next_task }
+        ensures flows { OnOk result (flows ≤ self.new.spare_flows) }
+        ensures tasks { OnOk result (tasks ≤ self.new.spare_tasks) }
+        ensures room_kept { (self.old.spare_flows ≤ self.new.spare_flows) × (self.old.spare_tasks ≤ self.new.spare_tasks) }
+    {
+        self.flows.reserve(flows)?;
+        self.index.reserve(tasks)?;
+        Ok(())
+    }
+
+    /// Keeps a new flow, which has the next number. Its attempts have numbers from the next one on, below `next_task`,
+    /// which is the next one from then on. It takes no memory.
+    pub fn add(&mut self, flow: Flow, revision: u64, next_task: u64)
+        requires number { flow.flow.number.0 ≡ self.old.next_flow }
+        requires numbers_left { self.old.next_flow < 2 ^ 56 }
+        requires attempts { RisingTo self.old.next_task next_task flow.flow.attempts }
+        requires limit { next_task ≤ 2 ^ 56 }
+        requires room_flows { 0 < self.old.spare_flows }
+        requires room_tasks { length flow.flow.attempts ≤ self.old.spare_tasks }
+        ensures kept { self.new.kept ≡ self.old.kept ++ record { flow = flow.flow; revision = revision } ∷ [] }
+        ensures next_flow { self.new.next_flow ≡ self.old.next_flow + 1 }
+        ensures next_task { self.new.next_task ≡ next_task }
+        ensures spare_flows { self.old.spare_flows ≤ self.new.spare_flows + 1 }
+        ensures spare_tasks { self.old.spare_tasks ≤ self.new.spare_tasks + length flow.flow.attempts }
+    {
+        add_rows(&mut self.index, flow.number(), flow.attempts(), 0);
+        self.flows.add(KeptFlow { flow, revision });
+        self.next_flow += 1;
+        self.next_task = next_task;
+    }
+
+    /// Keeps a flow in place of that of its number, from which it has grown: its new attempts have numbers from the
+    /// next one on, below `next_task`, which is the next one from then on. It takes no memory.
+    pub fn replace(&mut self, flow: Flow, revision: u64, next_task: u64)
+        requires grown { IsGrownFlow self.old flow.flow next_task }
+        requires limit { next_task ≤ 2 ^ 56 }
+        requires room { new_attempts flow.flow self.old.kept ≤ self.old.spare_tasks }
+        ensures kept { self.new.kept ≡ with_kept (record { flow = flow.flow; revision = revision }) self.old.kept }
+        ensures next_flow { self.new.next_flow ≡ self.old.next_flow }
+        ensures next_task { self.new.next_task ≡ next_task }
+        ensures spare_flows { self.new.spare_flows ≡ self.old.spare_flows }
+        ensures spare_tasks { self.old.spare_tasks ≤ self.new.spare_tasks + new_attempts flow.flow self.old.kept }
+    {
+        if let Some(place) = place_of(self.flows.as_slice(), flow.number()) {
+            let known = attempts_at(self.flows.as_slice(), place);
+            add_rows(&mut self.index, flow.number(), flow.attempts(), known);
+            self.flows.set(place, KeptFlow { flow, revision });
+            self.next_task = next_task;
+        }
+    }
+}
+
+/// How many attempts the flow at that place has.
+fn attempts_at(flows: &[KeptFlow], place: usize) -> usize
+    requires { place < length flows.now }
+    ensures { option_map attempt_count (slice_get (all_kept flows.now) place) ≡ Some result }
+{
+    flows[place].flow.attempts().len()
+}
+
+/// The flow of that number.
+fn flow_in(flows: &[KeptFlow], number: FlowNo) -> Option<&KeptFlow>
+    requires { Rises flow_number (all_kept flows.now) }
+    ensures { option_map kept (option_copied result) ≡ flow_numbered number (all_kept flows.now) }
+{
+    match place_of(flows, number) {
+        Some(place) => flows.get(place),
+        None => None,
+    }
+}
+
+/// The place of the flow of that number.
+fn place_of(flows: &[KeptFlow], number: FlowNo) -> Option<usize>
+    requires { Rises flow_number (all_kept flows.now) }
+    ensures none { IfNone result (flow_numbered number (all_kept flows.now) ≡ None) }
+    ensures some { IfSome result (λ place. IsPlaceOf flow_number number.0 (all_kept flows.now) place) }
+{
+    flows
+        .binary_search_by_key(&number.0, |kept| kept.flow.number().0)
+        .ok()
+}

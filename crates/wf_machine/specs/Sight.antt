@@ -1,0 +1,45 @@
+-- What the rules see of a flow: no number of an attempt, and no moment.
+use Rattle.std.specs.Prelude.{ℕ, Bool, List, map}
+use Rattle.wf_doc.specs.declared.doc.Doc.{Doc}
+use Rattle.wf_names.specs.declared.statuses.TaskStatus.{TaskStatus}
+use Rattle.wf_names.specs.declared.statuses.FlowStatus.{FlowStatus}
+use Rattle.wf_machine.specs.declared.definition.FlowDef.{FlowDef}
+use Rattle.wf_machine.specs.declared.definition.TaskDef.{TaskDef}
+use Rattle.wf_machine.specs.State.{Attempt, Flow, State}
+
+-- what they see of an attempt
+pub record Seen : Type 0 where
+  pub node : ℕ
+  pub iteration : ℕ
+  pub status : TaskStatus
+  pub output : Doc
+  pub turn : ℕ
+  pub superseded : Bool
+
+abbrev pub seen : Attempt → Seen
+seen a =
+    record {
+      node = a.node;
+      iteration = a.iteration;
+      status = a.status;
+      output = a.output;
+      turn = a.turn;
+      superseded = a.superseded;
+    }
+
+-- what they see of a flow: its attempts stand in their order, so each is known by its place
+pub record Sight : Type 0 where
+  pub status : FlowStatus
+  pub def : FlowDef
+  pub attempts : List Seen
+
+unfoldable pub sight : Flow → Sight
+sight flow = record { status = flow.status; def = flow.def; attempts = map seen flow.attempts }
+
+-- what they read beside the flow
+pub record Scene : Type 0 where
+  pub task_defs : List TaskDef
+
+-- what stands beside a flow in the state
+abbrev pub scene_in : State → Scene
+scene_in s = record { task_defs = s.task_defs }

@@ -1,0 +1,4 @@
+pub mod WordLemmas
+pub mod PathLemmas
+pub mod KeyLemmas
+pub mod CallLemmas
