@@ -9,6 +9,8 @@ mod no_memory;
 mod planned;
 mod planning;
 mod rules;
+#[cfg(test)]
+mod tests;
 
 pub use making::apply;
 pub use no_memory::NoMemory;

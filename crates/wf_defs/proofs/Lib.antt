@@ -1,0 +1,10 @@
+pub mod WordLemmas
+pub mod ListLemmas
+pub mod ConditionLemmas
+pub mod RoomLemmas
+pub mod CaseLemmas
+pub mod ReadingLemmas
+pub mod FaultLemmas
+pub mod BlankLemmas
+pub mod ClosingLemmas
+pub mod SpanLemmas

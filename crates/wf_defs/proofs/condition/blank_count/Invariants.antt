@@ -1,0 +1,8 @@
+use Rattle.std.proofs.Common.{◌≡◌, ◌+◌, drop}
+use Rattle.std.specs.List.{prefix_len}
+use Rattle.wf_defs.specs.Condition.{is_blank}
+use Rattle.wf_defs.proofs.condition.blank_count.Given as goal
+
+abbrev pub invariant-loop-i : goal.invariant-loop-i
+invariant-loop-i l =
+    prefix_len is_blank l.text ≡ l.i + prefix_len is_blank (drop l.i l.text)

@@ -1,0 +1,24 @@
+//! Definitions of tasks and of workflows, read from documents.
+//!
+//! A document is a definition where it breaks no rule. The rules are numbered, and a document that breaks some is
+//! answered the first of them with its place.
+#![tactic(auto)]
+
+mod condition;
+mod faults;
+mod fields;
+mod flow_reading;
+mod flow_rules;
+mod lists;
+mod names;
+mod node_reading;
+mod node_rules;
+mod nodes;
+mod task_reading;
+mod task_rules;
+#[cfg(test)]
+mod tests;
+
+pub use faults::DefFault;
+pub use flow_reading::read_flowdef;
+pub use task_reading::read_taskdef;
