@@ -7,7 +7,7 @@ use Rattle.wf_wire.specs.Items.{IsEnd, IsItems, Leads}
 use Rattle.wf_wire.specs.Request.{Request}
 use Rattle.wf_machine.specs.Serving.{Answered, IsLegal, requests, served}
 use Rattle.conductor.specs.declared.status.Status.{Status}
-use Rattle.conductor.specs.declared.status.Status.TheVariants.{Done, NoMemory, Usage, ReadFault, WriteFault, BadFrame, Cut, LongInput, TooLarge}
+use Rattle.conductor.specs.declared.status.Status.TheVariants.{Done, NoMemory, Usage, ReadFault, WriteFault, BadFrame, Cut, LongInput, TooLarge, Invalid}
 use Rattle.conductor.specs.Runs.{IsClosed, IsComplete, IsOpen, IsOutcome, IsRun, first_state}
 use Rattle.conductor.proofs.TurnLemmas.{served-closed, served-open}
 
@@ -40,6 +40,7 @@ module _ (unique : AreUnique) (first : AreFirst) (limits : Limits) (moment : ℕ
   complete_at Done read write x = inr (answered, (refl, all_served x.1, legal, x.0))
   complete_at NoMemory read write x = inl refl
   complete_at Usage read write x = absurd x
+  complete_at Invalid read write x = absurd x
   complete_at ReadFault read write x = absurd (read refl)
   complete_at WriteFault read write x = absurd (write refl)
   complete_at (Cut a) read write x = let e : next.End ≡ next.Cut a = ends (next.Cut a) x.1 in cc

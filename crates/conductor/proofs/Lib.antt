@@ -1,3 +1,5 @@
 pub mod TurnLemmas
 pub mod CompleteLemmas
 pub mod StandardLemmas
+pub mod InputLemmas
+pub mod CheckLemmas

@@ -1,7 +1,7 @@
 -- The standard limits.
 use Rattle.std.proofs.Common.{refl, lit≤}
 use Rattle.wf_wire.specs.declared.limits.Limits.{Limits}
-use Rattle.conductor.specs.Runs.{IsStandard}
+use Rattle.conductor.specs.Standard.{IsStandard}
 
 abbrev pub standard : Limits
 standard = record {

@@ -15,10 +15,11 @@ use Rattle.wf_machine.specs.Requests.{call_of}
 use Rattle.wf_machine.specs.Serving.{Answered, IsAsked, ends_closed, moment_after, requests, served, wire}
 use Rattle.wf_machine.proofs.ServingLemmas.{legal_more, moment-more, state_more, wire-more}
 use Rattle.conductor.specs.declared.status.Status.{Status}
-use Rattle.conductor.specs.declared.status.Status.TheVariants.{Done, NoMemory, Usage, ReadFault, WriteFault, BadFrame, Cut, LongInput, TooLarge}
+use Rattle.conductor.specs.declared.status.Status.TheVariants.{Done, NoMemory, Usage, ReadFault, WriteFault, BadFrame, Cut, LongInput, TooLarge, Invalid}
 use Rattle.conductor.specs.declared.batch.Turn.{Turn}
 use Rattle.conductor.specs.declared.batch.Turn.TheVariants.{Goes, Stops}
-use Rattle.conductor.specs.Runs.{Appends, AppendsPart, ComesNext, IsOutcome, IsRun, RunsOver, end_bytes, first_mark, first_state}
+use Rattle.conductor.specs.Runs.{ComesNext, IsOutcome, IsRun, RunsOver, end_bytes, first_mark, first_state}
+use Rattle.conductor.specs.Written.{Appends, AppendsPart}
 use Rattle.conductor.specs.Turns.{IsAnswer, IsAnswered, IsRefused, IsStopped, IsTurn, Stands, StandsOver}
 
 -- ---- bytes
@@ -200,6 +201,7 @@ module _ (limits : Limits) (moment : ℕ) (input : List ℕ) (old : Option (List
     run_answered s' left new (Cut a) x = absurd x
     run_answered s' left new LongInput x = absurd x
     run_answered s' left new (TooLarge a) x = absurd x
+    run_answered s' left new Invalid x = absurd x
 
   outcome : (left : List ℕ) (new : Option (List ℕ)) (status : Status) → IsOutcome limits moment answered o p left old new status → IsRun limits moment input left old new status
   outcome left new status x = (answered, o, p, (stands.leads, stands.legal, x))

@@ -1,5 +1,5 @@
 -- What a run over an input of requests leaves: the bytes that it wrote, and the status that it ended with.
-use Rattle.std.specs.Prelude.{◌≡◌, ◌≢◌, ◌⊎◌, ℕ, ◌^◌, min, true, false, List, [], ◌∷◌, ◌++◌, Option, Some}
+use Rattle.std.specs.Prelude.{◌≡◌, ◌⊎◌, ℕ, min, true, false, List, [], ◌∷◌, ◌++◌, Option, Some}
 use Rattle.wf_wire.specs.declared.limits.Limits.{Limits}
 use Rattle.wf_wire.specs.declared.inbox.Next.{Next}
 use Rattle.wf_wire.specs.declared.inbox.Next.TheVariants as next
@@ -12,18 +12,11 @@ use Rattle.wf_machine.specs.State.{State, new_state}
 use Rattle.wf_machine.specs.Replies.{printed_fault}
 use Rattle.wf_machine.specs.Serving.{Answered, IsLegal, answer_bytes, ends_closed, requests, served, wire}
 use Rattle.conductor.specs.declared.status.Status.{Status}
-use Rattle.conductor.specs.declared.status.Status.TheVariants.{Done, NoMemory, Usage, ReadFault, WriteFault, BadFrame, Cut, LongInput, TooLarge}
+use Rattle.conductor.specs.declared.status.Status.TheVariants.{Done, NoMemory, Usage, ReadFault, WriteFault, BadFrame, Cut, LongInput, TooLarge, Invalid}
+use Rattle.conductor.specs.Standard.{IsStandard}
+use Rattle.conductor.specs.Written.{Appends, AppendsPart}
 
--- ---- bytes
-
--- the sink took these bytes after those that it had, where it tells them
-abbrev pub Appends : Option (List ℕ) → Option (List ℕ) → List ℕ → Type 0
-Appends old new bytes = (taken : List ℕ) → old ≡ Some taken → new ≡ Some (taken ++ bytes)
-
--- the sink took the first bytes, and of the others a front
-abbrev pub AppendsPart : Option (List ℕ) → Option (List ℕ) → List ℕ → List ℕ → Type 0
-AppendsPart old new first bytes = (taken : List ℕ) → old ≡ Some taken
-    → (front : List ℕ) × (rest : List ℕ) × ((bytes ≡ front ++ rest) × (rest ≢ []) × (new ≡ Some (taken ++ (first ++ front))))
+-- ---- ends
 
 -- what is written where the input ends so: the fault, after which the connection ends
 abbrev pub end_bytes : Next → List ℕ
@@ -94,6 +87,7 @@ IsOutcome limits moment answered o p left old new WriteFault =
 IsOutcome limits moment answered o p left old new NoMemory =
     IsOpen answered × Appends old new (wire first_mark answered)
 IsOutcome limits moment answered o p left old new Usage = ⊥
+IsOutcome limits moment answered o p left old new Invalid = ⊥
 
 -- the first requests of the input were answered, each call by the machine's reply in one history of them all, and
 -- the run ended with this status
@@ -116,20 +110,6 @@ IsComplete limits moment messages old new status =
     × IsLegal limits first_state moment answered × Appends old new (wire first_mark answered)))
 
 -- ---- the standard limits
-
--- what a server that is told nothing else takes
-pub record IsStandard (limits : Limits) : Type 0 where
-  pub body : limits.body ≡ 1048576
-  pub head : limits.head ≡ 16384
-  pub fields : limits.fields ≡ 64
-  pub depth : limits.depth ≡ 64
-  pub nodes : limits.nodes ≡ 500
-  pub attempts : limits.attempts ≡ 4096
-  pub flows : limits.flows ≡ 20000
-  pub batch : limits.batch ≡ 100
-  pub document : limits.document ≡ 1048576
-  pub nesting : limits.nesting ≡ 16
-  pub input : limits.input ≡ 2 ^ 40
 
 -- under the standard limits, with the clock's moment in force until a request states one
 abbrev pub RunsFromClock : Option (ℕ → ℕ) → Option (List ℕ) → Option (List ℕ) → Option (List ℕ) → Option (List ℕ) → Status → Type 0

@@ -15,7 +15,8 @@ use Rattle.conductor.specs.declared.status.Status.{Status}
 use Rattle.conductor.specs.declared.status.Status.TheVariants.{Done, NoMemory, ReadFault, WriteFault, BadFrame, Cut, LongInput, TooLarge}
 use Rattle.conductor.specs.declared.batch.Turn.{Turn}
 use Rattle.conductor.specs.declared.batch.Turn.TheVariants.{Goes, Stops}
-use Rattle.conductor.specs.Runs.{Appends, AppendsPart, IsOpen, end_bytes, first_mark, first_state}
+use Rattle.conductor.specs.Runs.{IsOpen, end_bytes, first_mark, first_state}
+use Rattle.conductor.specs.Written.{Appends, AppendsPart}
 
 -- the request was asked, and these bytes are the answer
 abbrev pub IsAnswer : Limits → ℕ → State → State → Request → List ℕ → Type 0

@@ -2,18 +2,21 @@
 #![tactic(auto)]
 
 mod batch;
+mod check;
+mod input;
 mod status;
 #[cfg(test)]
 mod tests;
 mod words;
 
 use batch::batch;
+use check::check;
 use status::Status;
 use std::io::ErrorKind;
 use std::process::ExitCode;
 use std::{env, io};
 use wf_wire::{ReadSource, SystemClock, WriteSink};
-use words::{GRAMMAR, Word};
+use words::{GRAMMAR, Word, is_check};
 
 fn main(rt: HostRuntime) -> ExitCode {
     let status = run(&rt);
@@ -31,6 +34,9 @@ fn run(rt: &HostRuntime) -> Status {
     };
     let mut source = ReadSource::new(rt.reader());
     let mut sink = WriteSink::new(io::writer(rt));
+    if is_check(&words) {
+        return check(rt.alloc(), &words, &mut source, &mut sink);
+    }
     let mut clock = SystemClock::new(rt);
     batch(rt.alloc(), &words, &mut source, &mut sink, &mut clock)
 }

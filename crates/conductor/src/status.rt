@@ -21,6 +21,8 @@ pub enum Status {
     LongInput,
     /// The head or the body that begins there is larger than the limits let it be.
     TooLarge(u64),
+    /// The input isn't a valid definition.
+    Invalid,
 }
 
 impl Status {
@@ -38,6 +40,7 @@ impl Status {
             Status::Cut(_) => 8,
             Status::LongInput => 9,
             Status::TooLarge(_) => 10,
+            Status::Invalid => 13,
         }
     }
 
@@ -55,6 +58,7 @@ impl Status {
             Status::Cut(_) => "Cut",
             Status::LongInput => "LongInput",
             Status::TooLarge(_) => "TooLarge",
+            Status::Invalid => "Invalid",
         }
     }
 

@@ -1,5 +1,6 @@
-//! Runs of `batch` over memory: requests in, replies out.
+//! Runs of `batch` over memory: requests in, replies out; and in `check`, documents and what is said of them.
 
+mod check;
 mod limits;
 mod moments;
 mod not_built;

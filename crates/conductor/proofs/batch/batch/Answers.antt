@@ -1,5 +1,6 @@
 use Rattle.std.proofs.Common.{[], min, inl, refl, sym, ap, subst, ◌∙◌}
-use Rattle.conductor.specs.Runs.{IsStandard, first_state}
+use Rattle.conductor.specs.Runs.{first_state}
+use Rattle.conductor.specs.Standard.{IsStandard}
 use Rattle.wf_machine.specs.Moments.{last_moment}
 use Rattle.conductor.proofs.CompleteLemmas.{complete_run}
 use Rattle.conductor.proofs.StandardLemmas.{standard, is_standard}
