@@ -5,7 +5,7 @@ use Rattle.wf_wire.specs.declared.inbox.Next.{Next}
 use Rattle.wf_wire.specs.declared.inbox.Next.TheVariants as next
 use Rattle.wf_wire.specs.Items.{IsEnd, IsItems, Leads}
 use Rattle.wf_wire.specs.Request.{Request}
-use Rattle.wf_machine.specs.Serving.{Answered, IsLegal, requests, served}
+use Rattle.wf_rest.specs.Serving.{Answered, IsLegal, requests, served}
 use Rattle.conductor.specs.declared.status.Status.{Status}
 use Rattle.conductor.specs.declared.status.Status.TheVariants.{Done, NoMemory, Usage, ReadFault, WriteFault, BadFrame, Cut, LongInput, TooLarge, Invalid}
 use Rattle.conductor.specs.Runs.{IsClosed, IsComplete, IsOpen, IsOutcome, IsRun, first_state}

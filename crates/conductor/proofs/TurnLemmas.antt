@@ -10,10 +10,10 @@ use Rattle.wf_wire.specs.Request.{Request, closes}
 use Rattle.wf_machine.specs.declared.calling.Reply.{Reply}
 use Rattle.wf_machine.specs.State.{State}
 use Rattle.wf_machine.specs.History.{stored}
-use Rattle.wf_machine.specs.Moments.{moment_at}
-use Rattle.wf_machine.specs.Requests.{call_of}
-use Rattle.wf_machine.specs.Serving.{Answered, IsAsked, ends_closed, moment_after, requests, served, wire}
-use Rattle.wf_machine.proofs.ServingLemmas.{legal_more, moment-more, state_more, wire-more}
+use Rattle.wf_rest.specs.Moments.{moment_at}
+use Rattle.wf_rest.specs.Serving.{call_of}
+use Rattle.wf_rest.specs.Serving.{Answered, IsAsked, ends_closed, moment_after, requests, served, wire}
+use Rattle.wf_rest.proofs.ServingLemmas.{legal_more, moment-more, state_more, wire-more}
 use Rattle.conductor.specs.declared.status.Status.{Status}
 use Rattle.conductor.specs.declared.status.Status.TheVariants.{Done, NoMemory, Usage, ReadFault, WriteFault, BadFrame, Cut, LongInput, TooLarge, Invalid}
 use Rattle.conductor.specs.declared.batch.Turn.{Turn}
@@ -140,7 +140,7 @@ module _ (limits : Limits) (moment : ℕ) (input : List ℕ) (old : Option (List
             state = state_more limits first_state moment s s' answered m asked.0 stands.legal stands.state (asked_here s' asked.0 asked.1.0);
             in_force = moment-more moment answered a ∙ ap (λ n. moment_at n m) stands.in_force;
             wrote = λ taken e. appends_more old mid new _ _ stands.wrote wrote taken e
-                ∙ ap (λ b. Some (taken ++ b)) (ap (λ b. wire first_mark answered ++ b) asked.1.1 ∙ sym (wire-more first_mark answered m asked.0));
+                ∙ ap (λ b. Some (taken ++ b)) (ap (λ b. wire limits first_mark answered ++ b) asked.1.1 ∙ sym (wire-more limits first_mark answered m asked.0));
           },
         )
 
@@ -158,7 +158,7 @@ module _ (limits : Limits) (moment : ℕ) (input : List ℕ) (old : Option (List
             legal_more limits first_state moment s s' answered m asked.0 stands.legal stands.state (asked_here s' asked.0 asked.1.0),
             (
               (λ taken e. appends_more old mid new _ _ stands.wrote wrote taken e
-                  ∙ ap (λ b. Some (taken ++ b)) (ap (λ b. wire first_mark answered ++ b) asked.1.1 ∙ sym (wire-more first_mark answered m asked.0))),
+                  ∙ ap (λ b. Some (taken ++ b)) (ap (λ b. wire limits first_mark answered ++ b) asked.1.1 ∙ sym (wire-more limits first_mark answered m asked.0))),
               inl (
                 ap ends_closed last ∙ closed-more (requests answered) m stands.unclosed ∙ ap (λ b. b || false) closing,
                 ap served last ∙ served-last (requests answered) m stands.unclosed closing ∙ sym last,
@@ -210,12 +210,12 @@ module _ (limits : Limits) (moment : ℕ) (input : List ℕ) (old : Option (List
   named : (left : List ℕ) (new : Option (List ℕ)) (status told : Status) → status ≡ told → IsOutcome limits moment answered o p left old new told → IsRun limits moment input left old new status
   named left new status told e x = subst (IsRun limits moment input left old new) (sym e) (outcome left new told x)
 
-  quiet : (new : Option (List ℕ)) → Appends mid new [] → Appends old new (wire first_mark answered)
+  quiet : (new : Option (List ℕ)) → Appends mid new [] → Appends old new (wire limits first_mark answered)
   quiet new none = appends_nothing old mid new _ stands.wrote none
 
   -- the end is refused
   refused : (left bytes : List ℕ) (new : Option (List ℕ)) (status told : Status) → ComesNext limits moment answered o p bytes
-      → (Appends old new (wire first_mark answered ++ bytes) → IsOutcome limits moment answered o p left old new told)
+      → (Appends old new (wire limits first_mark answered ++ bytes) → IsOutcome limits moment answered o p left old new told)
       → IsRefused bytes told mid new status → IsRun limits moment input left old new status
   refused left bytes new status told next whole (inl x) = named left new status told x.0 (whole (appends_more old mid new _ bytes stands.wrote x.1))
   refused left bytes new status told next whole (inr (inl x)) =

@@ -1,7 +1,7 @@
 -- What `check` says of an input, and what it leaves.
-use Rattle.std.specs.Prelude.{◌≡◌, ◌⊎◌, ℕ, Bool, suc, ◌<◌, ◌≤◌, ◌==◌, nat_lt, if◌then◌else◌, List, [], ◌∷◌, ◌++◌, length, drop, codes, Option, None, Some, option_map, Result, Ok, Err}
+use Rattle.std.specs.Prelude.{◌≡◌, ◌⊎◌, ℕ, Bool, suc, ◌<◌, ◌≤◌, nat_lt, if◌then◌else◌, List, [], ◌∷◌, ◌++◌, length, drop, codes, Option, None, Some, Result, Ok, Err}
 use Rattle.std.specs.Fmt.{decimal}
-use Rattle.std.specs.Option.{option_map_or, option_or}
+use Rattle.std.specs.Option.{option_map_or}
 use Rattle.wf_doc.specs.declared.doc.Doc.{Doc}
 use Rattle.wf_doc.specs.declared.scan.DocFault.{DocFault}
 use Rattle.wf_doc.specs.declared.scan.DocFault.TheVariants as document
@@ -12,6 +12,7 @@ use Rattle.wf_defs.specs.declared.faults.DefFault.{DefFault}
 use Rattle.wf_defs.specs.declared.faults.DefFault.TheVariants as definition
 use Rattle.wf_defs.specs.FlowRules.{flow_rule}
 use Rattle.wf_defs.specs.TaskRules.{task_rule}
+use Rattle.wf_defs.specs.Several.{first_fault_in}
 use Rattle.conductor.specs.declared.check.Verdict.{Verdict}
 use Rattle.conductor.specs.declared.check.Verdict.TheVariants.{Valid, Unread, Broken}
 use Rattle.conductor.specs.declared.status.Status.{Status}
@@ -22,30 +23,9 @@ use Rattle.conductor.specs.Written.{Appends, AppendsPart}
 
 -- ---- the first fault
 
--- the place of an item of the document, counted from 0
-abbrev pub item_place : ℕ → List ℕ
-item_place n = codes "[" ++ decimal n ++ codes "]"
-
--- a place in the item, or the item itself
-abbrev pub place_in_item : ℕ → List ℕ → List ℕ
-place_in_item n place = if length place == 0 then item_place n else item_place n ++ codes "." ++ place
-
--- the fault of an item as one of the list
-abbrev pub in_item : ℕ → DefFault → DefFault
-in_item n (definition.Rule rule place) = definition.Rule rule (place_in_item n place)
-in_item n definition.NoMemory = definition.NoMemory
-
-abbrev pub item_fault : ℕ → Doc → Option DefFault
-item_fault n d = option_map (in_item n) (task_rule d)
-
--- the first fault of task definitions that are the items from the n-th on
-abbrev pub list_fault : ℕ → List Doc → Option DefFault
-list_fault n [] = None
-list_fault n (d ∷ ds) = option_or (item_fault n d) (list_fault (suc n) ds)
-
 -- the first fault of a document: a list is one of task definitions, anything else a workflow of at most so many nodes
 abbrev pub definition_fault : ℕ → Doc → Option DefFault
-definition_fault most d = option_map_or (list_fault 0) (as_list d) (flow_rule most d)
+definition_fault most d = option_map_or (first_fault_in task_rule 0) (as_list d) (flow_rule most d)
 
 -- ---- the verdict
 

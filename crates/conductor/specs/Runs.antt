@@ -6,11 +6,11 @@ use Rattle.wf_wire.specs.declared.inbox.Next.TheVariants as next
 use Rattle.wf_wire.specs.Items.{IsMessage, IsEnd, IsStop, Leads, IsItems}
 use Rattle.wf_wire.specs.Request.{Request}
 use Rattle.wf_machine.specs.declared.calling.Reply.{Reply}
-use Rattle.wf_machine.specs.declared.faulting.HttpFault.TheVariants as fault
-use Rattle.wf_machine.specs.Moments.{last_moment}
+use Rattle.wf_rest.specs.declared.faulting.HttpFault.TheVariants as fault
+use Rattle.wf_rest.specs.Moments.{last_moment}
 use Rattle.wf_machine.specs.State.{State, new_state}
-use Rattle.wf_machine.specs.Replies.{printed_fault}
-use Rattle.wf_machine.specs.Serving.{Answered, IsLegal, answer_bytes, ends_closed, requests, served, wire}
+use Rattle.wf_rest.specs.Responses.{printed_fault}
+use Rattle.wf_rest.specs.Serving.{Answered, IsLegal, answer_bytes, ends_closed, requests, served, wire}
 use Rattle.conductor.specs.declared.status.Status.{Status}
 use Rattle.conductor.specs.declared.status.Status.TheVariants.{Done, NoMemory, Usage, ReadFault, WriteFault, BadFrame, Cut, LongInput, TooLarge, Invalid}
 use Rattle.conductor.specs.Standard.{IsStandard}
@@ -60,32 +60,32 @@ abbrev pub ComesNext : Limits → ℕ → List Answered → ℕ → List ℕ →
 ComesNext limits moment answered o p bytes =
     ((m : Request) × (reply : Option Reply) × (o' : ℕ) × (p' : List ℕ) × (IsMessage limits o p m o' p'
     × IsLegal limits first_state moment (answered ++ record { request = m; reply = reply } ∷ [])
-    × (bytes ≡ answer_bytes first_mark m reply)))
+    × (bytes ≡ answer_bytes limits first_mark m reply)))
     ⊎ ((end : Next) × (IsEnd limits o p end × (bytes ≡ end_bytes end)))
 
 -- after these answers the input stands at the offset o with p, of which the source still has `left`: what the sink
 -- took, where the run ended with this status
 abbrev pub IsOutcome : Limits → ℕ → List Answered → ℕ → List ℕ → List ℕ → Option (List ℕ) → Option (List ℕ) → Status → Type 0
 IsOutcome limits moment answered o p left old new Done =
-    Appends old new (wire first_mark answered) × (IsClosed answered ⊎ (IsOpen answered × IsEnd limits o p next.End))
+    Appends old new (wire limits first_mark answered) × (IsClosed answered ⊎ (IsOpen answered × IsEnd limits o p next.End))
 IsOutcome limits moment answered o p left old new (Cut a) =
-    IsOpen answered × IsEnd limits o p (next.Cut a) × Appends old new (wire first_mark answered)
+    IsOpen answered × IsEnd limits o p (next.Cut a) × Appends old new (wire limits first_mark answered)
 IsOutcome limits moment answered o p left old new LongInput =
-    IsOpen answered × IsEnd limits o p next.LongInput × Appends old new (wire first_mark answered)
+    IsOpen answered × IsEnd limits o p next.LongInput × Appends old new (wire limits first_mark answered)
 IsOutcome limits moment answered o p left old new (BadFrame a) =
     IsOpen answered
-    × ((IsEnd limits o p (next.BadFrame a) × Appends old new (wire first_mark answered ++ end_bytes (next.BadFrame a)))
-    ⊎ (IsEnd limits o p (next.BadCoding a) × Appends old new (wire first_mark answered ++ end_bytes (next.BadCoding a))))
+    × ((IsEnd limits o p (next.BadFrame a) × Appends old new (wire limits first_mark answered ++ end_bytes (next.BadFrame a)))
+    ⊎ (IsEnd limits o p (next.BadCoding a) × Appends old new (wire limits first_mark answered ++ end_bytes (next.BadCoding a))))
 IsOutcome limits moment answered o p left old new (TooLarge a) =
     IsOpen answered
-    × ((IsEnd limits o p (next.LargeHead a) × Appends old new (wire first_mark answered ++ end_bytes (next.LargeHead a)))
-    ⊎ (IsEnd limits o p (next.LargeBody a) × Appends old new (wire first_mark answered ++ end_bytes (next.LargeBody a))))
+    × ((IsEnd limits o p (next.LargeHead a) × Appends old new (wire limits first_mark answered ++ end_bytes (next.LargeHead a)))
+    ⊎ (IsEnd limits o p (next.LargeBody a) × Appends old new (wire limits first_mark answered ++ end_bytes (next.LargeBody a))))
 IsOutcome limits moment answered o p left old new ReadFault =
-    IsOpen answered × IsStop limits o p left next.ReadFault × Appends old new (wire first_mark answered)
+    IsOpen answered × IsStop limits o p left next.ReadFault × Appends old new (wire limits first_mark answered)
 IsOutcome limits moment answered o p left old new WriteFault =
-    IsOpen answered × ((bytes : List ℕ) × (ComesNext limits moment answered o p bytes × AppendsPart old new (wire first_mark answered) bytes))
+    IsOpen answered × ((bytes : List ℕ) × (ComesNext limits moment answered o p bytes × AppendsPart old new (wire limits first_mark answered) bytes))
 IsOutcome limits moment answered o p left old new NoMemory =
-    IsOpen answered × Appends old new (wire first_mark answered)
+    IsOpen answered × Appends old new (wire limits first_mark answered)
 IsOutcome limits moment answered o p left old new Usage = ⊥
 IsOutcome limits moment answered o p left old new Invalid = ⊥
 
@@ -107,7 +107,7 @@ abbrev pub IsComplete : Limits → ℕ → List Request → Option (List ℕ) �
 IsComplete limits moment messages old new status =
     (status ≡ NoMemory)
     ⊎ ((answered : List Answered) × ((status ≡ Done) × (requests answered ≡ served messages)
-    × IsLegal limits first_state moment answered × Appends old new (wire first_mark answered)))
+    × IsLegal limits first_state moment answered × Appends old new (wire limits first_mark answered)))
 
 -- ---- the standard limits
 

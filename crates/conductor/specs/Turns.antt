@@ -8,9 +8,9 @@ use Rattle.wf_wire.specs.Request.{Request, closes}
 use Rattle.wf_machine.specs.declared.calling.Reply.{Reply}
 use Rattle.wf_machine.specs.State.{State}
 use Rattle.wf_machine.specs.History.{stored, state_after}
-use Rattle.wf_machine.specs.Moments.{moment_at}
-use Rattle.wf_machine.specs.Requests.{call_of}
-use Rattle.wf_machine.specs.Serving.{Answered, IsAsked, IsLegal, answer_bytes, history_of, moment_after, requests, wire}
+use Rattle.wf_rest.specs.Moments.{moment_at}
+use Rattle.wf_rest.specs.Serving.{call_of}
+use Rattle.wf_rest.specs.Serving.{Answered, IsAsked, IsLegal, answer_bytes, history_of, moment_after, requests, wire}
 use Rattle.conductor.specs.declared.status.Status.{Status}
 use Rattle.conductor.specs.declared.status.Status.TheVariants.{Done, NoMemory, ReadFault, WriteFault, BadFrame, Cut, LongInput, TooLarge}
 use Rattle.conductor.specs.declared.batch.Turn.{Turn}
@@ -21,7 +21,7 @@ use Rattle.conductor.specs.Written.{Appends, AppendsPart}
 -- the request was asked, and these bytes are the answer
 abbrev pub IsAnswer : Limits → ℕ → State → State → Request → List ℕ → Type 0
 IsAnswer limits moment s s' m bytes =
-    (reply : Option Reply) × (IsAsked limits moment s s' (call_of limits first_mark m) reply × (bytes ≡ answer_bytes first_mark m reply))
+    (reply : Option Reply) × (IsAsked limits moment s s' (call_of limits first_mark m) reply × (bytes ≡ answer_bytes limits first_mark m reply))
 
 -- what answering a request leaves
 abbrev pub IsAnswered : Limits → ℕ → State → State → Request → Option (List ℕ) → Option (List ℕ) → Turn → Type 0
@@ -68,7 +68,7 @@ pub record Stands (limits : Limits) (moment : ℕ) (input : List ℕ) (old : Opt
   pub legal : IsLegal limits first_state moment answered
   pub state : stored (state_after limits first_state (history_of limits first_mark moment answered)) ≡ stored s
   pub in_force : moment_after moment answered ≡ now
-  pub wrote : Appends old new (wire first_mark answered)
+  pub wrote : Appends old new (wire limits first_mark answered)
 
 -- the same, where the source tells its bytes
 abbrev pub StandsOver : Limits → ℕ → Option (List ℕ) → Option (List ℕ) → ℕ → List ℕ → Option (List ℕ) → State → ℕ → Option (List ℕ) → Type 0

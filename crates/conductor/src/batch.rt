@@ -1,13 +1,16 @@
 //! The command `batch`: requests from a source, their replies to a sink, one after another.
 
-ghost use Rattle.std.specs.Prelude.{◌≡◌, ◌≢◌, ◌<◌, ◌≤◌, ◌+◌, ◌^◌, ◌⊎◌, ◌↔◌, IfOk, IfSome, true, false, length};
+ghost use Rattle.std.specs.Prelude.{◌≡◌, ◌≢◌, ◌<◌, ◌≤◌, ◌+◌, ◌^◌, ◌⊎◌, ◌↔◌, Err, IfErr, IfOk, Ok, true, false, length};
+ghost use Rattle.std.specs.Result.{result_ok};
 ghost use Rattle.wf_wire.specs.Stream.{Rose};
 ghost use Rattle.wf_wire.specs.Items.{Coming};
-ghost use Rattle.wf_machine.specs.Replies.{IsPrintable, printed_fault};
-ghost use Rattle.wf_machine.specs.Moments.{moment_at};
+ghost use Rattle.wf_machine.specs.Calls.{IsProper};
+ghost use Rattle.wf_machine.specs.Replies.{IsPrintable};
+ghost use Rattle.wf_rest.specs.Moments.{moment_at};
 ghost use Rattle.wf_machine.specs.Records.{IsMoment};
-ghost use Rattle.wf_machine.specs.Requests.{call_of, fault_of};
-ghost use Rattle.wf_machine.specs.Serving.{IsAsked, answer_bytes};
+ghost use Rattle.wf_rest.specs.Requests.{timed_call};
+ghost use Rattle.wf_rest.specs.Responses.{printed_fault};
+ghost use Rattle.wf_rest.specs.Serving.{IsAsked, call_of, fault_of};
 ghost use Rattle.conductor.specs.Words.{are_batch};
 ghost use Rattle.conductor.specs.Runs.{CompletesFromClock, IsNoMessage, RunsFromClock, RunsOver, first_mark, first_state};
 ghost use Rattle.conductor.specs.Turns.{IsAnswer, IsAnswered, IsRefused, IsStopped, IsTurn};
@@ -17,9 +20,9 @@ use crate::words::{Word, is_batch};
 use std::alloc::Global;
 use wf_core::Core;
 use wf_doc::{NoMemory, Text};
-use wf_machine::{HttpFault, Reply};
+use wf_machine::{Call, Reply};
 use wf_names::Refusal;
-use wf_rest::{moment_of, print_fault, print_reply, read_call};
+use wf_rest::{HttpFault, Routes, is_encoded, moment_of, print_fault, print_reply, read_call};
 use wf_wire::laws::{items_are_unique, read_messages_are_first};
 use wf_wire::{Clock, Inbox, Limits, Message, Next, Sink, Source, next_message, write_all};
 
@@ -45,6 +48,7 @@ fn answer<W: Sink>(
     alloc: Global,
     moment: u64,
     core: &mut Core,
+    routes: &Routes,
     sink: &mut W,
     message: &Message,
 ) -> Turn
@@ -57,7 +61,7 @@ fn answer<W: Sink>(
     ensures cause { result ≡ Turn.Stops Status.WriteFault → Rose (W.faults sink.old) (W.faults sink.new) }
     ensures own_status { (result ≢ Turn.Stops Status.Usage) × (result ≢ Turn.Stops Status.ReadFault) }
 {
-    let text = match answer_text(alloc, moment, core, message) {
+    let text = match answer_text(alloc, moment, core, routes, message) {
         Ok(text) => text,
         Err(NoMemory) => return Turn::Stops(Status::NoMemory),
     };
@@ -76,6 +80,7 @@ fn answer_text(
     alloc: Global,
     moment: u64,
     core: &mut Core,
+    routes: &Routes,
     message: &Message,
 ) -> Result<Text, NoMemory>
     requires entries { core.old.entries < 2 ^ 62 }
@@ -84,46 +89,52 @@ fn answer_text(
     ensures limits { core.new.limits ≡ core.old.limits }
     ensures entries { core.new.entries ≤ core.old.entries + 1 }
 {
-    let reply = ask(alloc, moment, core, message);
-    print_answer(alloc, message, &reply)
+    let close = message.closes();
+    let head = message.method() == b"HEAD".as_slice();
+    match ask(alloc, moment, core, routes, message) {
+        Ok(reply) => print_reply(alloc, &reply, MARK, close, head),
+        Err(fault) => print_fault(alloc, &fault, close, head),
+    }
 }
 
-/// The machine's reply to a request, where it is a call. Where memory was wanting while it was read, the reply says so.
-fn ask(alloc: Global, moment: u64, core: &mut Core, message: &Message) -> Option<Reply>
+/// The machine's reply to a request, or why it is no call. Where memory was wanting while it was read, the reply says so.
+fn ask(
+    alloc: Global,
+    moment: u64,
+    core: &mut Core,
+    routes: &Routes,
+    message: &Message,
+) -> Result<Reply, HttpFault>
     requires entries { core.old.entries < 2 ^ 62 }
     requires moment { IsMoment moment }
-    ensures asked { IsAsked core.old.limits moment core.old.state core.new.state (call_of core.old.limits first_mark message.now) result }
-    ensures printable { IfSome result IsPrintable }
+    ensures asked { IsAsked core.old.limits moment core.old.state core.new.state (call_of core.old.limits first_mark message.now) (result_ok result) }
+    ensures fault { IfErr result (λ fault. fault_of core.old.limits first_mark message.now ≡ fault) }
+    ensures printable { IfOk result IsPrintable }
     ensures limits { core.new.limits ≡ core.old.limits }
     ensures entries { core.new.entries ≤ core.old.entries + 1 }
 {
-    match read_call(alloc, message, MARK, core.limits()) {
-        Ok(call) => Some(core.step(alloc, 0, moment, call)),
-        Err(HttpFault::NoMemory) => Some(Reply::Refused(Refusal::NoMemory)),
-        Err(_) => None,
+    match read_timed(alloc, core.limits(), routes, message) {
+        Ok(call) => Ok(core.step(alloc, 0, moment, call)),
+        Err(HttpFault::NoMemory) => Ok(Reply::Refused(Refusal::NoMemory)),
+        Err(fault) => Err(fault),
     }
 }
 
-fn print_answer(alloc: Global, message: &Message, reply: &Option<Reply>) -> Result<Text, NoMemory>
-    requires { IfSome reply.now IsPrintable }
-    ensures { IfOk result (λ text. text ≡ answer_bytes first_mark message.now reply.now) }
+/// The call that a request is. A bad moment is told before all but a Content-Encoding.
+fn read_timed(
+    alloc: Global,
+    limits: &Limits,
+    routes: &Routes,
+    message: &Message,
+) -> Result<Call, HttpFault>
+    ensures ok { IfOk result (λ call. timed_call limits.now first_mark message.now ≡ Ok call) }
+    ensures proper { IfOk result IsProper }
+    ensures err { IfErr result (λ fault. fault ≢ HttpFault.NoMemory → timed_call limits.now first_mark message.now ≡ Err fault) }
 {
-    let close = message.closes();
-    let head = message.method() == b"HEAD".as_slice();
-    match reply {
-        Some(reply) => print_reply(alloc, reply, MARK, close, head),
-        None => print_fault(alloc, fault_of(message), close, head),
+    if !is_encoded(message) {
+        moment_of(message)?;
     }
-}
-
-/// Why a request is no call.
-fn fault_of(message: &Message) -> HttpFault
-    ensures { result ≡ fault_of message.now }
-{
-    match moment_of(message) {
-        Ok(_) => HttpFault::NotBuilt,
-        Err(fault) => fault,
-    }
+    read_call(alloc, message, MARK, limits, routes)
 }
 
 /// The moment of a request: the one that it states, or else that of the request before it.
@@ -145,7 +156,7 @@ fn refuse<W: Sink>(alloc: Global, sink: &mut W, fault: HttpFault, status: Status
     ensures cause { result ≡ Status.WriteFault → (status ≡ Status.WriteFault) ⊎ Rose (W.faults sink.old) (W.faults sink.new) }
     ensures own_status { result ≡ Status.Usage → status ≡ Status.Usage }
 {
-    let text = match print_fault(alloc, fault, true, false) {
+    let text = match print_fault(alloc, &fault, true, false) {
         Ok(text) => text,
         Err(NoMemory) => return Status::NoMemory,
     };
@@ -183,6 +194,7 @@ fn take_turn<R: Source, W: Sink>(
     alloc: Global,
     moment: &mut u64,
     core: &mut Core,
+    routes: &Routes,
     inbox: &mut Inbox,
     source: &mut R,
     sink: &mut W,
@@ -205,7 +217,7 @@ fn take_turn<R: Source, W: Sink>(
     match next_message(alloc, inbox, source, core.limits()) {
         Next::Message(message) => {
             *moment = moment_at(*moment, &message);
-            answer(alloc, *moment, core, sink, &message)
+            answer(alloc, *moment, core, routes, sink, &message)
         }
         end => Turn::Stops(stop(alloc, sink, end)),
     }
@@ -216,6 +228,7 @@ fn serve<R: Source, W: Sink>(
     alloc: Global,
     moment: u64,
     core: &mut Core,
+    routes: &Routes,
     source: &mut R,
     sink: &mut W,
 ) -> Status
@@ -235,7 +248,7 @@ fn serve<R: Source, W: Sink>(
     };
     let mut in_force = moment;
     for _turn in 0..MOST_TURNS {
-        match take_turn(alloc, &mut in_force, core, &mut inbox, source, sink) {
+        match take_turn(alloc, &mut in_force, core, routes, &mut inbox, source, sink) {
             Turn::Goes => {}
             Turn::Stops(status) => return status,
         }
@@ -274,12 +287,15 @@ pub fn batch<R: Source, W: Sink, C: Clock>(
         return Status::Usage;
     }
     let moment = clock.now().min(LAST_MOMENT);
+    let Ok(routes) = Routes::new(alloc) else {
+        return Status::NoMemory;
+    };
     match Core::new(alloc, MARK, Limits::STANDARD) {
         Ok(mut core) => {
             // The clause `complete` stands on these laws of the wire.
             items_are_unique();
             read_messages_are_first();
-            serve(alloc, moment, &mut core, source, sink)
+            serve(alloc, moment, &mut core, &routes, source, sink)
         }
         Err(_) => Status::NoMemory,
     }

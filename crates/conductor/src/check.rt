@@ -3,6 +3,8 @@
 ghost use Rattle.std.specs.Prelude.{◌≡◌, ◌≢◌, ◌↔◌, IfOk, None, Some, string_bytes, true, false};
 ghost use Rattle.wf_wire.specs.Stream.{Rose};
 ghost use Rattle.wf_defs.specs.FlowRules.{flow_rule};
+ghost use Rattle.wf_defs.specs.Several.{first_fault_in};
+ghost use Rattle.wf_defs.specs.TaskRules.{task_rule};
 ghost use Rattle.conductor.specs.Words.{are_check};
 ghost use Rattle.conductor.specs.Checking as spec;
 ghost use Rattle.conductor.specs.Checking.{ChecksOver, ChecksStandard, CompletesStandard, IsTold};
@@ -12,8 +14,8 @@ use crate::input::{Input, read_input};
 use crate::status::Status;
 use crate::words::{Word, is_check};
 use std::alloc::Global;
-use wf_defs::{DefFault, read_flowdef, read_taskdef};
-use wf_doc::{Doc, DocFault, NoMemory, Text, copy, read};
+use wf_defs::{DefFault, read_flowdef, read_taskdefs};
+use wf_doc::{Doc, DocFault, NoMemory, Text, read};
 use wf_wire::{Limits, Sink, Source, write_all};
 
 /// What is to be said of an input.
@@ -29,43 +31,15 @@ pub enum Verdict {
 
 // ---- the first fault
 
-/// A place in an item of the document, or the item itself.
-fn place_in_item(alloc: Global, n: usize, place: &str) -> Result<Text, NoMemory>
-    ensures { IfOk result (λ made. made ≡ spec.place_in_item n place.now) }
-{
-    let made = if place.is_empty() {
-        format!(in alloc; "[{n}]")?
-    } else {
-        format!(in alloc; "[{n}].{place}")?
-    };
-    Ok(Text::from_string(made))
-}
-
-/// The fault of the task definition that is the n-th item.
-fn item_fault(alloc: Global, n: usize, item: &Doc) -> Result<Option<DefFault>, NoMemory>
-    ensures { IfOk result (λ fault. fault ≡ spec.item_fault n item.now) }
-{
-    let doc = copy(alloc, item)?;
-    match read_taskdef(alloc, doc) {
-        Ok(_) => Ok(None),
-        Err(DefFault::Rule { rule, place }) => {
-            let place = place_in_item(alloc, n, place.as_str())?;
-            Ok(Some(DefFault::Rule { rule, place }))
-        }
-        Err(DefFault::NoMemory) => Err(NoMemory),
-    }
-}
-
 /// The first fault of task definitions.
 fn list_fault(alloc: Global, items: &[Doc]) -> Result<Option<DefFault>, NoMemory>
-    ensures { IfOk result (λ fault. fault ≡ spec.list_fault 0 items.now) }
+    ensures { IfOk result (λ fault. fault ≡ first_fault_in task_rule 0 items.now) }
 {
-    for (n, item) in items.iter().enumerate() {
-        if let Some(fault) = item_fault(alloc, n, item)? {
-            return Ok(Some(fault));
-        }
+    match read_taskdefs(alloc, items) {
+        Ok(_) => Ok(None),
+        Err(DefFault::NoMemory) => Err(NoMemory),
+        Err(fault) => Ok(Some(fault)),
     }
-    Ok(None)
 }
 
 /// The fault of a workflow definition.

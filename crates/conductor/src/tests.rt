@@ -1,10 +1,16 @@
 //! Runs of `batch` over memory: requests in, replies out; and in `check`, documents and what is said of them.
 
+mod bodies;
 mod check;
+mod definitions;
+mod filling;
 mod limits;
+mod metadata;
 mod moments;
 mod not_built;
+mod queries;
 mod reads;
+mod routing;
 mod rows;
 mod scripts;
 mod starts;
@@ -31,8 +37,8 @@ HTTP/1.1 409 Conflict\r\nContent-Type: application/json\r\nContent-Length: 61\r\
 {\"code\":\"EXISTS\",\"message\":\"already registered\",\"status\":409}\
 HTTP/1.1 200 OK\r\nContent-Type: text/plain\r\nContent-Length: 36\r\n\r\n\
 00000001-0100-8000-8000-000000000001\
-HTTP/1.1 501 Not Implemented\r\nContent-Type: application/json\r\nContent-Length: 59\r\n\r\n\
-{\"code\":\"NOT_BUILT\",\"message\":\"not built yet\",\"status\":501}";
+HTTP/1.1 405 Method Not Allowed\r\nAllow: POST\r\nContent-Type: application/json\r\nContent-Length: 66\r\n\r\n\
+{\"code\":\"BAD_METHOD\",\"message\":\"no such method here\",\"status\":405}";
 
 /// A run over these bytes: how it ended, and the sink with what it took.
 #[derive(Drop)]
@@ -100,7 +106,7 @@ fn each_failed_read_leaves_a_front(rt: HostRuntime) -> Result<(), Fail> {
         (4, 38),
         (5, 176),
         (6, 277),
-        (7, 420),
+        (7, 443),
     ] {
         let run = run(rt.alloc(), 0, ORDER, 64, &[failed], &[])?;
         assert_front(&rt, &run, Status::ReadFault, taken);
@@ -119,8 +125,9 @@ fn each_failed_write_leaves_a_front(rt: HostRuntime) -> Result<(), Fail> {
 
 #[test]
 fn ends_are_told(rt: HostRuntime) -> Result<(), Fail> {
-    let not_built: &[u8] = b"HTTP/1.1 501 Not Implemented\r\nContent-Type: application/json\r\n\
-Content-Length: 59\r\n\r\n{\"code\":\"NOT_BUILT\",\"message\":\"not built yet\",\"status\":501}";
+    let bad_method: &[u8] =
+        b"HTTP/1.1 405 Method Not Allowed\r\nAllow: POST\r\nContent-Type: application/json\r\n\
+Content-Length: 66\r\n\r\n{\"code\":\"BAD_METHOD\",\"message\":\"no such method here\",\"status\":405}";
     let bad_frame: &[u8] =
         b"HTTP/1.1 400 Bad Request\r\nConnection: close\r\nContent-Type: application/json\r\n\
 Content-Length: 65\r\n\r\n{\"code\":\"BAD_FRAME\",\"message\":\"not an HTTP message\",\"status\":400}";
@@ -130,12 +137,12 @@ Content-Length: 65\r\n\r\n{\"code\":\"BAD_FRAME\",\"message\":\"not an HTTP mess
         (
             b"GET /api/workflow/running/x HTTP/1.1\r\n\r\nPOST /api/tasks HTTP/1.1\r\nContent-Length: 10\r\n\r\n{\"a\"",
             Status::Cut(40),
-            not_built,
+            b"HTTP/1.1 200 OK\r\nContent-Type: application/json\r\nContent-Length: 2\r\n\r\n[]",
         ),
         (
             b"GET /api/workflow HTTP/1.1\r\n\r\n\r\n",
             Status::Cut(30),
-            not_built,
+            bad_method,
         ),
         (b"GET\r\n", Status::BadFrame(0), bad_frame),
         (
@@ -164,13 +171,13 @@ Content-Length: 66\r\n\r\n{\"code\":\"CODING\",\"message\":\"unknown transfer co
         (
             b"PUT /api/workflow HTTP/1.1\r\nMoment-Ms: 0\r\nContent-Length: 2\r\n\r\n{}",
             Status::Done,
-            not_built,
+            bad_method,
         ),
         (
             b"GET /api/workflow HTTP/1.0\r\n\r\nwhat stands here isn't looked at",
             Status::Done,
-            b"HTTP/1.1 501 Not Implemented\r\nConnection: close\r\nContent-Type: application/json\r\n\
-Content-Length: 59\r\n\r\n{\"code\":\"NOT_BUILT\",\"message\":\"not built yet\",\"status\":501}",
+            b"HTTP/1.1 405 Method Not Allowed\r\nAllow: POST\r\nConnection: close\r\nContent-Type: application/json\r\n\
+Content-Length: 66\r\n\r\n{\"code\":\"BAD_METHOD\",\"message\":\"no such method here\",\"status\":405}",
         ),
     ];
     for (input, status, output) in rows {
@@ -201,6 +208,12 @@ fn scripts_are_answered(rt: HostRuntime) -> Result<(), Fail> {
         work::SCRIPTS,
         reads::SCRIPTS,
         moments::SCRIPTS,
+        metadata::SCRIPTS,
+        definitions::SCRIPTS,
+        routing::SCRIPTS,
+        queries::SCRIPTS,
+        bodies::SCRIPTS,
+        filling::SCRIPTS,
         not_built::SCRIPTS,
     ] {
         assert!(rt; scripts.split("\n# ").count() > 1);
@@ -270,7 +283,10 @@ fn workflow_of(alloc: Global, tasks: u32) -> Result<String, Fail> {
 #[test]
 fn a_workflow_has_at_most_500_tasks(rt: HostRuntime) -> Result<(), Fail> {
     let alloc = rt.alloc();
-    for (tasks, answer, started) in [(500, "200", "200 <F1>"), (501, "NOT_BUILT", "NOT_FOUND")] {
+    for (tasks, answer, started) in [
+        (500, "200", "200 <F1>"),
+        (501, "BAD_DEFINITION rule 15 at tasks[500]", "NOT_FOUND"),
+    ] {
         let workflow = workflow_of(alloc, tasks)?;
         let script = format!(in alloc;
             "POST /api/metadata/workflow {}\n= {answer}\nPOST /api/workflow/long {{}}\n= {started}",

@@ -2,7 +2,7 @@
 use Rattle.std.specs.Prelude.{ℕ, ◌≡◌, ◌+◌, ◌<◌, ◌≤◌, ◌^◌, List, [], ◌∷◌, ◌++◌, length, Option, None, Some}
 use Rattle.wf_machine.specs.declared.sight.HandList.{HandList}
 use Rattle.wf_machine.specs.State.{Flow, Kept, State, RisingTo}
-use Rattle.wf_machine.specs.Calls.{Stepped, stepped, with_flow, with_flow_def, with_task_defs}
+use Rattle.wf_machine.specs.Calls.{Stepped, stepped, with_flow, with_flow_defs, with_task_defs, without_flow_def, without_task_def}
 use Rattle.wf_machine.specs.Queues.{with_hand}
 use Rattle.wf_machine.specs.Records.{IsMoment}
 use Rattle.wf_machine.specs.Replies.{IsPrintable}
@@ -10,7 +10,7 @@ use Rattle.wf_kept.specs.Flows.{FlowTable, IsGrownFlow, new_attempts}
 use Rattle.wf_kept.specs.Hands.{Book, HasHandRoom}
 use Rattle.wf_core.specs.Store.{Store, book_of, table_of}
 use Rattle.wf_core.specs.declared.change.Touched.{Touched}
-use Rattle.wf_core.specs.declared.change.Touched.TheVariants.{Nothing, TaskDefs, FlowDef, NewFlow, Flow as OldFlow}
+use Rattle.wf_core.specs.declared.change.Touched.TheVariants.{Nothing, TaskDefs, NoTaskDef, FlowDefs, NoFlowDef, NewFlow, Flow as OldFlow}
 use Rattle.wf_core.specs.declared.change.Change.{Change}
 
 abbrev pub hand_noted : Option (List ℕ) → ℕ → List HandList → List HandList
@@ -21,7 +21,10 @@ hand_noted (Some name) e hands = with_hand name e hands
 abbrev pub touched : ℕ → ℕ → Touched → State → State
 touched place e Nothing s = s
 touched place e (TaskDefs defs) s = record s { last = e; task_defs = with_task_defs defs.items s.task_defs; defs_revision = place }
-touched place e (FlowDef def) s = record s { last = e; flow_defs = with_flow_def def s.flow_defs; defs_revision = place }
+touched place e (NoTaskDef name) s = record s { last = e; task_defs = without_task_def name s.task_defs; defs_revision = place }
+touched place e (FlowDefs defs) s = record s { last = e; flow_defs = with_flow_defs defs.items s.flow_defs; defs_revision = place }
+touched place e (NoFlowDef name version) s =
+    record s { last = e; flow_defs = without_flow_def name version s.flow_defs; defs_revision = place }
 touched place e (NewFlow flow next_task) s =
     let kept : Kept = record { flow = flow.flow; revision = place } in
     record s { last = e; next_flow = s.next_flow + 1; next_task = next_task; flows = s.flows ++ kept ∷ [] }
@@ -57,7 +60,9 @@ pub record IsOldFlow (table : FlowTable) (flow : Flow) (next_task : ℕ) : Type 
 abbrev pub IsReady : Touched → Store → Type 0
 IsReady Nothing store = Unit {0}
 IsReady (TaskDefs defs) store = length defs.items ≤ store.rooms.task_defs
-IsReady (FlowDef def) store = 0 < store.rooms.flow_defs
+IsReady (NoTaskDef name) store = Unit {0}
+IsReady (FlowDefs defs) store = length defs.items ≤ store.rooms.flow_defs
+IsReady (NoFlowDef name version) store = Unit {0}
 IsReady (NewFlow flow next_task) store = IsNewFlow (table_of store) flow.flow next_task
 IsReady (OldFlow flow next_task hand) store = IsOldFlow (table_of store) flow.flow next_task × HasRoomFor hand (book_of store)
 

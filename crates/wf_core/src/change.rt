@@ -12,8 +12,12 @@ pub enum Touched {
     Nothing,
     /// The tasks are registered, one after another.
     TaskDefs(Vec<TaskDef>),
-    /// The workflow is registered.
-    FlowDef(Definition),
+    /// The task of that name is forgotten.
+    NoTaskDef(Text),
+    /// The workflows are registered, one after another.
+    FlowDefs(Vec<Definition>),
+    /// The workflow of that name and version is forgotten.
+    NoFlowDef(Text, u32),
     /// The flow is kept, under the next number; then the next number of an attempt is this one.
     NewFlow(FlowRecord, u64),
     /// The kept flow of its number becomes this one; then the next number of an attempt is this one. Where a name is

@@ -33,6 +33,7 @@ impl Core {
         let plan = plan_beside(
             alloc,
             flow,
+            self.mark,
             self.task_defs.as_slice(),
             next_task,
             &self.limits,

@@ -7,11 +7,13 @@
 
 mod change;
 mod deciding;
+mod definitions;
 pub mod laws;
 mod no_memory;
 mod polls;
 mod reads;
 mod registrations;
+mod running;
 mod starts;
 mod steps;
 mod updates;

@@ -9,6 +9,7 @@ use crate::change::{Change, Touched};
 use crate::no_memory::NoMemory;
 use crate::steps::Core;
 use std::alloc::Global;
+use wf_decide::with_template;
 use wf_doc::{Doc, Text, print_len};
 use wf_flow::Flow;
 use wf_kept::find_flow_def;
@@ -39,6 +40,7 @@ impl Core {
         if self.limits.flows as usize <= self.flows.len() || 1 << 56 <= self.flows.next_flow() {
             return Ok(Change::none(Reply::Refused(Refusal::StoreFull)));
         }
+        let input = with_template(alloc, &def.template, input)?;
         if print_len(&input) > self.limits.document as u64 {
             return Ok(Change::none(Reply::Refused(Refusal::DocumentLimit)));
         }

@@ -13,7 +13,7 @@ use std::alloc::Global;
 use std::marker::Model;
 use wf_doc::Text;
 use wf_flow::Flow;
-use wf_kept::{HandBook, KeptFlows, Roomy, register, register_tasks};
+use wf_kept::{HandBook, KeptFlows, Roomy, forget, forget_task, register_all, register_tasks};
 use wf_machine::{Call, FlowDef, Reply, TaskDef, TaskResult};
 use wf_names::{FlowNo, Refusal, TaskNo};
 use wf_wire::Limits;
@@ -141,7 +141,15 @@ impl Core {
         let at = self.last.max(moment);
         match call {
             Call::PutTaskDefs(defs) => self.prepare_tasks(alloc, at, defs),
-            Call::AddFlowDef(def) => self.prepare_register(at, def),
+            Call::UpdateTaskDef(def) => self.prepare_task_update(alloc, at, def),
+            Call::TaskDefs => self.prepare_task_defs(alloc),
+            Call::TaskDefNamed(name) => self.prepare_task_def(alloc, &name),
+            Call::DropTaskDef(name) => Ok(self.prepare_task_drop(at, name)),
+            Call::AddFlowDef(def) => self.prepare_register(alloc, at, def),
+            Call::PutFlowDefs(defs) => self.prepare_flow_defs_put(alloc, at, defs),
+            Call::FlowDefs => self.prepare_flow_defs(alloc),
+            Call::FlowDefNamed(name, version) => self.prepare_flow_def(alloc, &name, version),
+            Call::DropFlowDef(name, version) => Ok(self.prepare_flow_drop(at, name, version)),
             Call::Start {
                 name,
                 version,
@@ -149,6 +157,7 @@ impl Core {
                 correlation,
             } => self.prepare_start(alloc, at, &name, version, input, correlation),
             Call::GetFlow(number, tasks) => self.prepare_read(alloc, number, tasks),
+            Call::Running(name, version) => self.prepare_running(alloc, &name, version),
             Call::Poll(name, worker) => self.prepare_poll(alloc, at, name, worker),
             Call::GetTask(task) => self.prepare_task_read(alloc, task),
             Call::Update {
@@ -195,9 +204,19 @@ impl Core {
                 register_tasks(&mut self.task_defs, defs);
                 self.defs_revision = self.entries + 1;
             }
-            Touched::FlowDef(def) => {
+            Touched::NoTaskDef(name) => {
                 self.last = moment;
-                register(&mut self.flow_defs, def);
+                forget_task(&mut self.task_defs, name.as_str());
+                self.defs_revision = self.entries + 1;
+            }
+            Touched::FlowDefs(defs) => {
+                self.last = moment;
+                register_all(&mut self.flow_defs, defs);
+                self.defs_revision = self.entries + 1;
+            }
+            Touched::NoFlowDef(name, version) => {
+                self.last = moment;
+                forget(&mut self.flow_defs, name.as_str(), version);
                 self.defs_revision = self.entries + 1;
             }
             Touched::NewFlow(flow, next_task) => {

@@ -1,1 +1,4 @@
 pub mod PlanningLemmas
+pub mod ScopeLemmas
+pub mod FitLemmas
+pub mod TemplateLemmas

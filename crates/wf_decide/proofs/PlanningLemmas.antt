@@ -1,5 +1,5 @@
 -- A plan that is made rule by rule.
-use Rattle.std.proofs.Common.{◌≡◌, ℕ, zero, suc, ◌+◌, ◌-◌, ◌^◌, ◌<◌, ◌≤◌, Bool, true, false, List, [], ◌∷◌, ◌++◌, Option, None, Some, refl, sym, ap, ◌∙◌, append_assoc, subst, arith}
+use Rattle.std.proofs.Common.{◌≡◌, ℕ, suc, ◌+◌, ◌-◌, ◌^◌, ◌<◌, ◌≤◌, Bool, false, List, [], ◌∷◌, ◌++◌, Some, refl, sym, ap, ◌∙◌, append_assoc, subst, arith}
 use Rattle.std.proofs.lemmas.List.{append-nil}
 use Rattle.wf_names.specs.FlowStatus.{flow_is_open}
 use Rattle.wf_names.specs.declared.statuses.FlowStatus.{FlowStatus}
@@ -14,7 +14,7 @@ use Rattle.wf_machine.specs.Rules.{Turn, choose, is_running, make}
 use Rattle.wf_machine.specs.Plans.{CanMake, CanMakeAll, new_tasks, planned, runs_after, turn_at}
 use Rattle.wf_decide.specs.Planning.{IsRuleMade}
 use Rattle.wf_machine.proofs.MakeLemmas.{after_added, all_after, fits_added}
-use Rattle.wf_machine.proofs.PlanLemmas.{planned_more, planned_none}
+use Rattle.wf_machine.proofs.PlanLemmas.{planned_more}
 
 -- the acts so far, and the flow that they made, when so many rules may still apply
 pub record IsPlanning (limits : Limits) (scene : Scene) (e : ℕ) (flow : Flow) (first : ℕ) (whole : List Act) (left : ℕ) (acts : List Act) (decided : Flow) (next : ℕ) : Type 0 where

@@ -4,11 +4,16 @@
 //! [`apply`] does it, and takes none.
 #![tactic(auto)]
 
+mod filling;
 mod making;
 mod no_memory;
 mod planned;
 mod planning;
 mod rules;
+mod scope;
+#[cfg(test)]
+mod template_tests;
+mod templates;
 #[cfg(test)]
 mod tests;
 
@@ -16,3 +21,4 @@ pub use making::apply;
 pub use no_memory::NoMemory;
 pub use planned::Plan;
 pub use planning::{plan, plan_beside};
+pub use templates::with_template;

@@ -30,7 +30,7 @@ pub fn plan(
     requires numbers { view.now.next_task ≤ 2 ^ 56 }
     requires last { IsMoment view.now.last }
     requires moment { IsMoment moment }
-    ensures plan { IfOk result (λ made. made ≡ spec.plan limits.now (record { task_defs = view.now.task_defs })
+    ensures plan { IfOk result (λ made. made ≡ spec.plan limits.now (record { mark = view.now.mark; task_defs = view.now.task_defs })
         (max view.now.last moment) (spec.turn_at flow.now.flow view.now.next_task)) }
     ensures fits { IfOk result (λ made. spec.AreFor made flow.now.flow) }
     ensures numbers { IfOk result (λ made. view.now.next_task + spec.new_tasks made ≤ 2 ^ 56) }
@@ -39,6 +39,7 @@ pub fn plan(
     plan_beside(
         alloc,
         flow,
+        view.mark,
         view.task_defs.as_slice(),
         view.next_task,
         limits,
@@ -51,6 +52,7 @@ pub fn plan(
 pub fn plan_beside(
     alloc: Global,
     flow: &Flow,
+    mark: u32,
     task_defs: &[TaskDef],
     next_task: u64,
     limits: &Limits,
@@ -59,7 +61,7 @@ pub fn plan_beside(
     requires rising { RisingTo 1 next_task flow.now.flow.attempts }
     requires numbers { next_task ≤ 2 ^ 56 }
     requires moment { IsMoment moment }
-    ensures plan { IfOk result (λ made. made ≡ spec.plan limits.now (record { task_defs = task_defs.now }) moment (spec.turn_at flow.now.flow next_task)) }
+    ensures plan { IfOk result (λ made. made ≡ spec.plan limits.now (record { mark = mark; task_defs = task_defs.now }) moment (spec.turn_at flow.now.flow next_task)) }
     ensures fits { IfOk result (λ made. spec.AreFor made flow.now.flow) }
     ensures numbers { IfOk result (λ made. next_task + spec.new_tasks made ≤ 2 ^ 56) }
 {
@@ -71,6 +73,7 @@ pub fn plan_beside(
         match plan_rule(
             alloc,
             &mut decided,
+            mark,
             task_defs,
             next,
             limits,
@@ -90,6 +93,7 @@ pub fn plan_beside(
 fn plan_rule(
     alloc: Global,
     decided: &mut Flow,
+    mark: u32,
     task_defs: &[TaskDef],
     next_task: u64,
     limits: &Limits,
@@ -100,12 +104,12 @@ fn plan_rule(
     requires numbers { next_task ≤ 2 ^ 56 }
     requires moment { IsMoment moment }
     ensures none { IfOk result (λ after. after ≡ None
-        → (choose limits.now (record { task_defs = task_defs.now }) (spec.turn_at decided.old.flow next_task) ≡ None)
+        → (choose limits.now (record { mark = mark; task_defs = task_defs.now }) (spec.turn_at decided.old.flow next_task) ≡ None)
         × (acts.new.items ≡ acts.old.items) × (decided.new.flow ≡ decided.old.flow)) }
-    ensures some { IfOk result (λ after. Held (IsRuleMade limits.now (record { task_defs = task_defs.now }) moment decided.old.flow next_task
+    ensures some { IfOk result (λ after. Held (IsRuleMade limits.now (record { mark = mark; task_defs = task_defs.now }) moment decided.old.flow next_task
         decided.new.flow acts.old.items acts.new.items) after) }
 {
-    let act = match choose(alloc, decided, task_defs, next_task, limits)? {
+    let act = match choose(alloc, decided, mark, task_defs, next_task, limits)? {
         None => return Ok(None),
         Some(act) => act,
     };

@@ -1,18 +1,22 @@
 //! Which rule applies to a flow, and what it wants done.
 
-ghost use Rattle.std.specs.Prelude.{◌≡◌, ◌+◌, ◌^◌, ◌≤◌, [], ◌∷◌, ◌++◌, codes, true, option_map, None, Some, IfOk};
+ghost use Rattle.std.specs.Prelude.{◌≡◌, ◌+◌, ◌^◌, ◌≤◌, [], ◌∷◌, ◌++◌, codes, true, if◌then◌else◌, option_map, None, Some, IfOk};
 ghost use Rattle.std.specs.Option.{option_copied, option_map_or};
+ghost use Rattle.wf_expr.specs.Filling.{filled};
 ghost use Rattle.wf_machine.specs.Marks.{node_at};
+ghost use Rattle.wf_machine.specs.Naming.{names};
 ghost use Rattle.wf_machine.specs.Plans.{CanMake, new_tasks, turn_at};
 ghost use Rattle.wf_machine.specs.Records.{Held, is_kind_at, is_simple};
 ghost use Rattle.wf_machine.specs.Rules as spec;
 ghost use Rattle.wf_machine.specs.Sight.{sight};
 
+use crate::filling::{complete_filled, complete_with, fails, has_keys, task_with};
 use crate::no_memory::NoMemory;
+use crate::scope::FlowScope;
 use std::alloc::Global;
-use wf_doc::{Doc, Fields, Text, depth, print_len};
+use wf_doc::{Doc, Fields, Text};
 use wf_flow::{Flow, node_at};
-use wf_machine::{Act, NewAttempt, Next, Node, NodeKind, TaskDef};
+use wf_machine::{Act, Next, Node, NodeKind, TaskDef};
 use wf_names::FlowStatus;
 use wf_tree::next_node;
 use wf_wire::Limits;
@@ -21,16 +25,17 @@ use wf_wire::Limits;
 pub fn choose(
     alloc: Global,
     flow: &Flow,
+    mark: u32,
     task_defs: &[TaskDef],
     next_task: u64,
     limits: &Limits,
 ) -> Result<Option<Act>, NoMemory>
     ensures chosen { IfOk result (λ act. option_map (λ a. a ∷ []) act
-        ≡ spec.choose limits.now (record { task_defs = task_defs.now }) (turn_at flow.now.flow next_task)) }
+        ≡ spec.choose limits.now (record { mark = mark; task_defs = task_defs.now }) (turn_at flow.now.flow next_task)) }
     ensures fits { IfOk result (λ act. Held (CanMake flow.now.flow.def (spec.is_running flow.now.flow.status)) act) }
     ensures numbers { IfOk result (λ act. Held (λ a. next_task ≤ 2 ^ 56 → next_task + new_tasks (a ∷ []) ≤ 2 ^ 56) act) }
 {
-    match pick(alloc, flow, task_defs, limits)? {
+    match pick(alloc, flow, mark, task_defs, limits)? {
         None => Ok(None),
         Some(act) => Ok(Some(allowed(alloc, next_task, act)?)),
     }
@@ -53,38 +58,20 @@ fn allowed(alloc: Global, next_task: u64, act: Act) -> Result<Act, NoMemory>
     }
 }
 
-/// The flow fails for that reason.
-fn fails(alloc: Global, reason: &str, output: Option<Doc>) -> Result<Act, NoMemory>
-    ensures { IfOk result (λ act. act ≡ spec.fails reason.now output) }
-{
-    let reason = Text::new(alloc, reason)?;
-    Ok(Act::End(FlowStatus::Failed, Some(reason), output))
-}
-
-/// The flow fails because a document is too large.
-fn fails_too_large(alloc: Global) -> Result<Act, NoMemory>
-    ensures { IfOk result (λ act. act ≡ spec.fails (codes "document limit") (Some (Doc.Table []))) }
-{
-    fails(
-        alloc,
-        "document limit",
-        Some(Doc::Table(Fields::new(alloc))),
-    )
-}
-
 #[tactic(auto, unfolding(wf_machine::specs::Rules::pick, wf_machine::specs::Sight::sight))]
 fn pick(
     alloc: Global,
     flow: &Flow,
+    mark: u32,
     task_defs: &[TaskDef],
     limits: &Limits,
 ) -> Result<Option<Act>, NoMemory>
     ensures chosen { IfOk result (λ act. option_map (λ a. a ∷ []) act
-        ≡ spec.pick limits.now (record { task_defs = task_defs.now }) (sight flow.now.flow)) }
+        ≡ spec.pick limits.now (record { mark = mark; task_defs = task_defs.now }) (sight flow.now.flow)) }
     ensures fits { IfOk result (λ act. Held (CanMake flow.now.flow.def (spec.is_running flow.now.flow.status)) act) }
 {
     match flow.status() {
-        FlowStatus::Running => take_step(alloc, flow, task_defs, limits, next_node(flow)),
+        FlowStatus::Running => take_step(alloc, flow, mark, task_defs, limits, next_node(flow)),
         _ => Ok(None),
     }
 }
@@ -94,20 +81,21 @@ fn pick(
 fn take_step(
     alloc: Global,
     flow: &Flow,
+    mark: u32,
     task_defs: &[TaskDef],
     limits: &Limits,
     next: Next,
 ) -> Result<Option<Act>, NoMemory>
     requires { spec.is_running flow.now.flow.status ≡ true }
     ensures chosen { IfOk result (λ act. option_map (λ a. a ∷ []) act
-        ≡ spec.take_step limits.now (record { task_defs = task_defs.now }) (sight flow.now.flow) next) }
+        ≡ spec.take_step limits.now (record { mark = mark; task_defs = task_defs.now }) (sight flow.now.flow) next) }
     ensures fits { IfOk result (λ act. Held (CanMake flow.now.flow.def (spec.is_running flow.now.flow.status)) act) }
 {
     match next {
         Next::Schedule(index, iteration) => schedule(
-            alloc, flow, task_defs, limits, index, iteration,
+            alloc, flow, mark, task_defs, limits, index, iteration,
         ),
-        Next::Done => Ok(Some(complete(alloc, flow, limits)?)),
+        Next::Done => Ok(Some(complete(alloc, flow, mark, limits)?)),
         Next::Join(_, _) => Ok(None),
         Next::Turn(_, _) => Ok(None),
         Next::Waits => Ok(None),
@@ -118,6 +106,7 @@ fn take_step(
 fn schedule(
     alloc: Global,
     flow: &Flow,
+    mark: u32,
     task_defs: &[TaskDef],
     limits: &Limits,
     index: u32,
@@ -125,12 +114,12 @@ fn schedule(
 ) -> Result<Option<Act>, NoMemory>
     requires { spec.is_running flow.now.flow.status ≡ true }
     ensures chosen { IfOk result (λ act. option_map (λ a. a ∷ []) act
-        ≡ spec.take_step limits.now (record { task_defs = task_defs.now }) (sight flow.now.flow) (Next.Schedule index iteration)) }
+        ≡ spec.take_step limits.now (record { mark = mark; task_defs = task_defs.now }) (sight flow.now.flow) (Next.Schedule index iteration)) }
     ensures fits { IfOk result (λ act. Held (CanMake flow.now.flow.def (spec.is_running flow.now.flow.status)) act) }
 {
     match node_at(flow.def().nodes.as_slice(), index) {
         None => Ok(None),
-        Some(node) => schedule_node(alloc, flow, task_defs, limits, iteration, node),
+        Some(node) => schedule_node(alloc, flow, mark, task_defs, limits, iteration, node),
     }
 }
 
@@ -138,6 +127,7 @@ fn schedule(
 fn schedule_node(
     alloc: Global,
     flow: &Flow,
+    mark: u32,
     task_defs: &[TaskDef],
     limits: &Limits,
     iteration: u32,
@@ -146,12 +136,12 @@ fn schedule_node(
     requires runs { spec.is_running flow.now.flow.status ≡ true }
     requires there { node_at flow.now.flow.def.nodes node.now.index ≡ Some node.now }
     ensures chosen { IfOk result (λ act. option_map (λ a. a ∷ []) act
-        ≡ spec.schedule_kind limits.now (record { task_defs = task_defs.now }) (sight flow.now.flow) iteration node.now node.now.kind) }
+        ≡ spec.schedule_kind limits.now (record { mark = mark; task_defs = task_defs.now }) (sight flow.now.flow) iteration node.now node.now.kind) }
     ensures fits { IfOk result (λ act. Held (CanMake flow.now.flow.def (spec.is_running flow.now.flow.status)) act) }
 {
     match &node.kind {
         NodeKind::Simple => Ok(Some(schedule_simple(
-            alloc, flow, task_defs, limits, iteration, node,
+            alloc, flow, mark, task_defs, limits, iteration, node,
         )?)),
         NodeKind::Switch(_) => Ok(None),
         NodeKind::Fork(_) => Ok(None),
@@ -169,6 +159,7 @@ fn schedule_node(
 fn schedule_simple(
     alloc: Global,
     flow: &Flow,
+    mark: u32,
     task_defs: &[TaskDef],
     limits: &Limits,
     iteration: u32,
@@ -177,12 +168,12 @@ fn schedule_simple(
     requires runs { spec.is_running flow.now.flow.status ≡ true }
     requires simple { is_kind_at is_simple flow.now.flow.def node.now.index ≡ true }
     ensures chosen { IfOk result (λ act. act
-        ≡ spec.schedule_simple limits.now (sight flow.now.flow) iteration node.now (spec.task_def_named node.now.name task_defs.now)) }
+        ≡ spec.schedule_simple limits.now (record { mark = mark; task_defs = task_defs.now }) (sight flow.now.flow) iteration node.now (spec.task_def_named node.now.name task_defs.now)) }
     ensures fits { IfOk result (λ act. CanMake flow.now.flow.def (spec.is_running flow.now.flow.status) act) }
 {
     match task_def_of(task_defs, node.name.as_str()) {
         None => fails_without_definition(alloc, node.name.as_str()),
-        Some(def) => schedule_task(alloc, flow, limits, iteration, node, def),
+        Some(def) => schedule_task(alloc, flow, mark, limits, iteration, node, def),
     }
 }
 
@@ -203,10 +194,12 @@ fn fails_without_definition(alloc: Global, name: &str) -> Result<Act, NoMemory>
     Ok(Act::End(FlowStatus::Failed, Some(reason), None))
 }
 
+/// The node is scheduled with its filled input, or the flow ends for want of a place or of room for the input.
 #[tactic(auto, unfolding(wf_machine::specs::Sight::sight))]
 fn schedule_task(
     alloc: Global,
     flow: &Flow,
+    mark: u32,
     limits: &Limits,
     iteration: u32,
     node: &Node,
@@ -214,34 +207,68 @@ fn schedule_task(
 ) -> Result<Act, NoMemory>
     requires runs { spec.is_running flow.now.flow.status ≡ true }
     requires simple { is_kind_at is_simple flow.now.flow.def node.now.index ≡ true }
-    ensures chosen { IfOk result (λ act. act ≡ spec.schedule_simple limits.now (sight flow.now.flow) iteration node.now (Some def.now)) }
+    ensures chosen { IfOk result (λ act. act ≡ spec.schedule_task limits.now (sight flow.now.flow) iteration node.now def.now
+        (filled (names mark (sight flow.now.flow)) node.now.input)) }
     ensures fits { IfOk result (λ act. CanMake flow.now.flow.def (spec.is_running flow.now.flow.status) act) }
 {
     if limits.attempts as u64 <= flow.len() {
         return fails(alloc, "attempt limit", None);
     }
-    if is_too_large(limits, &node.input) {
-        return fails_too_large(alloc);
-    }
-    Ok(Act::Add(NewAttempt {
-        node: node.index,
-        iteration,
-        timing: def.timing,
-        delay: node.start_delay,
-        input: wf_doc::copy(alloc, &node.input)?,
-    }))
+    schedule_filled(alloc, flow, mark, limits, iteration, node, def)
 }
 
-/// The document nests deeper, or its text is longer, than may be.
-fn is_too_large(limits: &Limits, doc: &Doc) -> bool
-    ensures { result ≡ spec.is_too_large limits.now doc.now }
+/// The node is scheduled with its filled input, or the flow ends for want of room for it.
+fn schedule_filled(
+    alloc: Global,
+    flow: &Flow,
+    mark: u32,
+    limits: &Limits,
+    iteration: u32,
+    node: &Node,
+    def: &TaskDef,
+) -> Result<Act, NoMemory>
+    requires runs { spec.is_running flow.now.flow.status ≡ true }
+    requires simple { is_kind_at is_simple flow.now.flow.def node.now.index ≡ true }
+    ensures chosen { IfOk result (λ act. act
+        ≡ (if spec.is_input_too_large limits.now def.now (filled (names mark (sight flow.now.flow)) node.now.input)
+        then spec.fails (codes "document limit") (Some (Doc.Table []))
+        else Act.Add (spec.new_task iteration node.now def.now (filled (names mark (sight flow.now.flow)) node.now.input)))) }
+    ensures fits { IfOk result (λ act. CanMake flow.now.flow.def (spec.is_running flow.now.flow.status) act) }
 {
-    depth(doc) > limits.depth || print_len(doc) > limits.document as u64
+    let scope = FlowScope::new(alloc, flow, mark)?;
+    task_with(alloc, &scope, limits, iteration, node, def)
 }
 
-/// The flow completes with the output of its last node.
-fn complete(alloc: Global, flow: &Flow, limits: &Limits) -> Result<Act, NoMemory>
-    ensures chosen { IfOk result (λ act. act ≡ spec.complete limits.now (spec.flow_output (sight flow.now.flow))) }
+/// The flow completes with what its definition says, or else with the output of its last node.
+#[tactic(auto, unfolding(wf_machine::specs::Sight::sight))]
+fn complete(alloc: Global, flow: &Flow, mark: u32, limits: &Limits) -> Result<Act, NoMemory>
+    ensures chosen { IfOk result (λ act. act ≡ spec.complete limits.now (if spec.has_keys flow.now.flow.def.output
+        then filled (names mark (sight flow.now.flow)) flow.now.flow.def.output else spec.last_output (sight flow.now.flow))) }
+    ensures fits { IfOk result (λ act. CanMake flow.now.flow.def (spec.is_running flow.now.flow.status) act) }
+{
+    let output = &flow.def().output;
+    if !has_keys(output) {
+        return complete_with_last(alloc, flow, limits);
+    }
+    complete_with_own(alloc, flow, mark, limits)
+}
+
+/// The flow completes with the filled output of its definition, where there is room for it.
+fn complete_with_own(
+    alloc: Global,
+    flow: &Flow,
+    mark: u32,
+    limits: &Limits,
+) -> Result<Act, NoMemory>
+    ensures chosen { IfOk result (λ act. act ≡ spec.complete limits.now (filled (names mark (sight flow.now.flow)) flow.now.flow.def.output)) }
+    ensures fits { IfOk result (λ act. CanMake flow.now.flow.def (spec.is_running flow.now.flow.status) act) }
+{
+    let scope = FlowScope::new(alloc, flow, mark)?;
+    complete_filled(alloc, &scope, limits, &flow.def().output)
+}
+
+fn complete_with_last(alloc: Global, flow: &Flow, limits: &Limits) -> Result<Act, NoMemory>
+    ensures chosen { IfOk result (λ act. act ≡ spec.complete limits.now (spec.last_output (sight flow.now.flow))) }
     ensures fits { IfOk result (λ act. CanMake flow.now.flow.def (spec.is_running flow.now.flow.status) act) }
 {
     match last_output(flow) {
@@ -250,20 +277,10 @@ fn complete(alloc: Global, flow: &Flow, limits: &Limits) -> Result<Act, NoMemory
     }
 }
 
-fn complete_with(alloc: Global, limits: &Limits, output: &Doc) -> Result<Act, NoMemory>
-    ensures { IfOk result (λ act. act ≡ spec.complete limits.now output.now) }
-{
-    if is_too_large(limits, output) {
-        return fails_too_large(alloc);
-    }
-    let output = wf_doc::copy(alloc, output)?;
-    Ok(Act::End(FlowStatus::Completed, None, Some(output)))
-}
-
 /// The output of the last attempt at the flow's last node.
 #[tactic(auto, unfolding(wf_machine::specs::Sight::sight))]
 fn last_output(flow: &Flow) -> Option<&Doc>
-    ensures { option_map_or (λ d. d) (option_copied result) (Doc.Table []) ≡ spec.flow_output (sight flow.now.flow) }
+    ensures { option_map_or (λ d. d) (option_copied result) (Doc.Table []) ≡ spec.last_output (sight flow.now.flow) }
 {
     let nodes = flow.def().nodes.as_slice();
     if nodes.is_empty() {

@@ -77,7 +77,7 @@ fn a_registered_task_is_scheduled(rt: HostRuntime) -> Result<(), Fail> {
     let alloc = rt.alloc();
     let mut flow = flow(alloc)?;
     let defs = task_defs(alloc)?;
-    let plan = plan_beside(alloc, &flow, defs.as_slice(), 10, &Limits::STANDARD, 90)?;
+    let plan = plan_beside(alloc, &flow, 1, defs.as_slice(), 10, &Limits::STANDARD, 90)?;
     assert_eq!(rt; plan.new_tasks(), 1);
     flow.reserve(plan.new_tasks())?;
     let next_task = apply(alloc, plan, &mut flow, 10, 95);

@@ -2,7 +2,7 @@
 use Rattle.std.proofs.Common.{◌≡◌, refl, ℕ, ◌<◌, Bool, true, false, List, [], ◌∷◌, ◌++◌, length, Option, None, Some, arith}
 use Rattle.std.proofs.lemmas.Bool.Decides.{nat_tests}
 use Rattle.wf_defs.specs.Faults.{or_first_of, first_broken, fault_at}
-use Rattle.wf_defs.specs.Fields.{unless}
+use Rattle.wf_fields.specs.Fields.{unless}
 use Rattle.wf_doc.specs.declared.doc.Doc.{Doc}
 use Rattle.wf_defs.specs.NodeRules.{node_number_rule, node_form_rule, reference_rule, type_rule, switch_rule, pair_rule, joined_rule, loop_rule, sub_flow_rule, left_out_rule, room_rule, broken_node_rule}
 use Rattle.wf_defs.specs.TaskRules.{table_rule, name_rule}

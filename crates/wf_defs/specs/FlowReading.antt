@@ -8,7 +8,7 @@ use Rattle.wf_doc.specs.Fields.{put}
 use Rattle.wf_machine.specs.declared.definition.FlowDef.{FlowDef}
 use Rattle.wf_machine.specs.declared.definition.Node.{Node}
 use Rattle.wf_machine.specs.Text.{same_text}
-use Rattle.wf_defs.specs.Fields.{given, text_in, number_or, truth_or, table_in}
+use Rattle.wf_fields.specs.Fields.{given, text_in, number_or, truth_or, table_in}
 use Rattle.wf_defs.specs.Nodes.{sites_inside, top_list}
 use Rattle.wf_defs.specs.NodeReading.{kind_at, nodes_of}
 

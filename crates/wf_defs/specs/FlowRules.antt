@@ -3,10 +3,10 @@ use Rattle.std.specs.Prelude.{ℕ, ◌==◌, not, List, [], ◌∷◌, ◌++◌,
 use Rattle.std.specs.Option.{option_or}
 use Rattle.wf_doc.specs.declared.doc.Doc.{Doc}
 use Rattle.wf_defs.specs.declared.faults.DefFault.{DefFault}
-use Rattle.wf_defs.specs.declared.fields.Form.{Form}
-use Rattle.wf_defs.specs.declared.fields.Form.TheVariants.{Truth, AList, ATable}
+use Rattle.wf_fields.specs.declared.fields.Form.{Form}
+use Rattle.wf_fields.specs.declared.fields.Form.TheVariants.{Truth, AList, ATable}
 use Rattle.wf_defs.specs.Faults.{first_broken, fault_at}
-use Rattle.wf_defs.specs.Fields.{is_absent_or, is_one_of, first_misnumbered, first_misformed, items_in, unless}
+use Rattle.wf_fields.specs.Fields.{is_absent_or, is_one_of, first_misnumbered, first_misformed, items_in, unless}
 use Rattle.wf_defs.specs.TaskRules.{table_rule, name_rule}
 use Rattle.wf_defs.specs.Nodes.{Site, reference_of, all_sites}
 use Rattle.wf_defs.specs.NodeRules.{first_used, broken_node_rule}

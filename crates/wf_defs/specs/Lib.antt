@@ -1,5 +1,4 @@
 -- Valid definitions, and what they say.
-pub mod Fields
 pub mod Names
 pub mod Faults
 pub mod TaskRules
@@ -11,3 +10,4 @@ pub mod FlowRules
 pub mod Lists
 pub mod NodeReading
 pub mod FlowReading
+pub mod Several

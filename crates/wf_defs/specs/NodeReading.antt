@@ -14,7 +14,7 @@ use Rattle.wf_machine.specs.declared.definition.Count.{Count}
 use Rattle.wf_machine.specs.declared.definition.Count.TheVariants.{Number, Param}
 use Rattle.wf_machine.specs.Text.{same_text}
 use Rattle.wf_defs.specs.Condition.{condition_number, condition_key}
-use Rattle.wf_defs.specs.Fields.{as_count, text_in, number_or, truth_or, table_in}
+use Rattle.wf_fields.specs.Fields.{as_count, text_in, number_or, truth_or, table_in}
 use Rattle.wf_defs.specs.Nodes.{Site, Listed, type_of, is_type, reference_of, entries_in, cases, item_place, lists_inside, sites_of, sites_inside}
 use Rattle.wf_defs.specs.NodeRules.{nested, sub_name, joined}
 

@@ -9,11 +9,11 @@ use Rattle.wf_doc.specs.declared.doc.Doc.TheViews.{out-Doc}
 use Rattle.wf_doc.specs.Doc.{as_text, field}
 use Rattle.wf_doc.specs.Fields.{keys}
 use Rattle.wf_machine.specs.Text.{same_text}
-use Rattle.wf_defs.specs.declared.fields.Form.{Form}
-use Rattle.wf_defs.specs.declared.fields.Form.TheVariants.{Truth, AText, Texts, AList, Lists, ATable, Cases}
+use Rattle.wf_fields.specs.declared.fields.Form.{Form}
+use Rattle.wf_fields.specs.declared.fields.Form.TheVariants.{Truth, AText, Texts, AList, Lists, ATable, Cases}
 use Rattle.wf_defs.specs.Condition.{is_condition}
 use Rattle.wf_defs.specs.Faults.{first_broken}
-use Rattle.wf_defs.specs.Fields.{given, is_given, is_number, is_among, first_misnumbered, first_misformed, unless, text_in, items_of, items_in}
+use Rattle.wf_fields.specs.Fields.{given, is_given, is_number, is_among, first_misnumbered, first_misformed, unless, text_in, items_of, items_in}
 use Rattle.wf_defs.specs.Names.{is_name, is_reference}
 use Rattle.wf_defs.specs.Nodes.{type_of, is_type, reference_of, entries_in, branches, body}
 use Rattle.wf_defs.specs.TaskRules.{table_rule, name_rule}

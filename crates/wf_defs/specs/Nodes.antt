@@ -7,7 +7,7 @@ use Rattle.wf_doc.specs.declared.doc.Doc.{Doc}
 use Rattle.wf_doc.specs.declared.fields.Entry.{Entry}
 use Rattle.wf_doc.specs.Doc.{as_text, as_table}
 use Rattle.wf_machine.specs.Text.{same_text}
-use Rattle.wf_defs.specs.Fields.{given, text_in, items_of, items_in}
+use Rattle.wf_fields.specs.Fields.{given, text_in, items_of, items_in}
 
 -- ---- what a node says of itself
 

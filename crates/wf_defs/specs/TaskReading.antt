@@ -8,7 +8,7 @@ use Rattle.wf_machine.specs.declared.timed.TaskPolicy.{TaskPolicy}
 use Rattle.wf_machine.specs.declared.timed.TaskPolicy.TheVariants.{Retry, TimeOutWf, AlertOnly}
 use Rattle.wf_machine.specs.declared.definition.TaskDef.{TaskDef}
 use Rattle.wf_machine.specs.Text.{same_text}
-use Rattle.wf_defs.specs.Fields.{text_in, number_or, table_in}
+use Rattle.wf_fields.specs.Fields.{text_in, number_or, table_in}
 
 -- the logic that the text names, or that of a definition which names none
 abbrev pub retry_logic : List ℕ → RetryLogic

@@ -5,9 +5,9 @@ use Rattle.std.specs.Option.{option_or}
 use Rattle.wf_doc.specs.declared.doc.Doc.{Doc}
 use Rattle.wf_doc.specs.Doc.{as_table}
 use Rattle.wf_defs.specs.declared.faults.DefFault.{DefFault}
-use Rattle.wf_defs.specs.declared.fields.Form.TheVariants.{ATable}
+use Rattle.wf_fields.specs.declared.fields.Form.TheVariants.{ATable}
 use Rattle.wf_defs.specs.Faults.{first_broken, fault_at}
-use Rattle.wf_defs.specs.Fields.{is_absent_or, is_number, is_one_of, first_misnumbered, first_misformed, text_in, unless}
+use Rattle.wf_fields.specs.Fields.{is_absent_or, is_number, is_one_of, first_misnumbered, first_misformed, text_in, unless}
 use Rattle.wf_defs.specs.Names.{is_name}
 
 -- a definition is a table

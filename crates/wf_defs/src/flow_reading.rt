@@ -6,12 +6,12 @@ ghost use Rattle.wf_defs.specs.FlowRules.{first_fault, flow_rule};
 ghost use Rattle.wf_defs.specs.FlowReading as spec;
 
 use crate::faults::{DefFault, tell};
-use crate::fields::{is_absent, items_in, number_or, table_in, text_in, truth_or};
 use crate::flow_rules::broken_flow_rule;
 use crate::lists::{NodeList, Part};
 use crate::node_reading::read_list;
 use std::alloc::Global;
 use wf_doc::{Doc, Items, NoMemory, Text};
+use wf_fields::{is_absent, items_in, number_or, table_in, text_in, truth_or};
 use wf_machine::{FlowDef, Node};
 use wf_wire::Limits;
 

@@ -4,12 +4,10 @@ ghost use Rattle.std.specs.Prelude.{◌≡◌, option_map};
 ghost use Rattle.wf_defs.specs.FlowRules as spec;
 
 use crate::faults::{Broken, first_broken};
-use crate::fields::{
-    Form, first_misformed, first_misnumbered, is_absent_or_one_of, items_in, unless,
-};
 use crate::node_rules::first_used;
 use crate::task_rules::{name_rule, table_rule};
 use wf_doc::Doc;
+use wf_fields::{Form, first_misformed, first_misnumbered, is_absent_or_one_of, items_in, unless};
 
 const MOST: u64 = 2_147_483_647;
 

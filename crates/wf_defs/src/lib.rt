@@ -6,7 +6,6 @@
 
 mod condition;
 mod faults;
-mod fields;
 mod flow_reading;
 mod flow_rules;
 mod lists;
@@ -14,6 +13,7 @@ mod names;
 mod node_reading;
 mod node_rules;
 mod nodes;
+mod several;
 mod task_reading;
 mod task_rules;
 #[cfg(test)]
@@ -21,4 +21,8 @@ mod tests;
 
 pub use faults::DefFault;
 pub use flow_reading::read_flowdef;
+pub use several::{read_flowdefs, read_taskdefs};
 pub use task_reading::read_taskdef;
+pub use wf_machine::{
+    Branch, Case, Cases, Count, FlowDef, FlowDefs, Node, NodeKind, Nodes, TaskDef, TaskDefs,
+};

@@ -4,10 +4,10 @@ ghost use Rattle.std.specs.Prelude.{◌≡◌, ◌∷◌, [], IfOk, codes, map};
 ghost use Rattle.wf_defs.specs.Nodes as nodes;
 ghost use Rattle.wf_defs.specs.Lists as spec;
 
-use crate::fields::{items_in, items_of};
 use crate::nodes::{body, branches, cases, field_place, is_type, item_place};
 use std::alloc::Global;
 use wf_doc::{Doc, Entry, NoMemory, Text};
+use wf_fields::{items_in, items_of};
 
 /// Which part of what stands at a place is the list.
 #[derive(Clone, Copy)]

@@ -12,12 +12,12 @@ ghost use Rattle.wf_defs.specs.NodeReading.{kind_at};
 
 use crate::condition::{condition_key, condition_number};
 use crate::faults::{DefFault, tell};
-use crate::fields::{as_count, items_in, number_or, table_in, text_in, truth_or};
 use crate::lists::{NodeList, lists_inside, place_of};
 use crate::node_rules::{broken_node_rule, nested, sub_name, text_of};
 use crate::nodes::{cases, entries_in, is_type, item_place, previous, reference_of, type_of};
 use std::alloc::Global;
 use wf_doc::{Doc, Entry, Items, NoMemory, Text};
+use wf_fields::{as_count, items_in, number_or, table_in, text_in, truth_or};
 use wf_machine::{Branch, Case, Cases, Count, Node, NodeKind};
 
 /// The nodes of the list, so many levels down. `seen` are the references of the nodes before, and then of these too.

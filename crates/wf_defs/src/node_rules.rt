@@ -7,18 +7,18 @@ ghost use Rattle.std.specs.Option.{option_copied};
 ghost use Rattle.wf_machine.specs.Text.{same_text};
 ghost use Rattle.wf_defs.specs.Faults.{first_broken};
 ghost use Rattle.wf_defs.specs.NodeRules as spec;
-ghost use Rattle.wf_defs.specs.Fields as fields;
+ghost use Rattle.wf_fields.specs.Fields as fields;
 
 use crate::condition::is_condition;
 use crate::faults::{Broken, first_broken};
-use crate::fields::{
-    Form, first_misformed, first_misnumbered, given, is_among, is_number, items_in, items_of,
-    text_in, unless,
-};
 use crate::names::{is_name, is_reference};
 use crate::nodes::{body, branches, entries_in, is_type, reference_of, type_of};
 use crate::task_rules::{name_rule, table_rule};
 use wf_doc::{Doc, Items, Text};
+use wf_fields::{
+    Form, first_misformed, first_misnumbered, given, is_among, is_number, items_in, items_of,
+    text_in, unless,
+};
 
 const MOST: u64 = 2_147_483_647;
 

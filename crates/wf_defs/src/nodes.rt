@@ -4,9 +4,9 @@ ghost use Rattle.std.specs.Prelude.{◌≡◌, IfOk};
 ghost use Rattle.std.specs.Option.{option_copied};
 ghost use Rattle.wf_defs.specs.Nodes as spec;
 
-use crate::fields::{given, items_in, text_in};
 use std::alloc::Global;
 use wf_doc::{Doc, Entry, NoMemory, Text};
+use wf_fields::{given, items_in, text_in};
 
 /// The type: a node that names none is SIMPLE, and one whose type is no text has the empty type.
 pub(crate) fn type_of(node: &Doc) -> &str

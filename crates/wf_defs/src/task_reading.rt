@@ -5,10 +5,10 @@ ghost use Rattle.wf_defs.specs.TaskRules.{task_rule};
 ghost use Rattle.wf_defs.specs.TaskReading as spec;
 
 use crate::faults::{DefFault, tell};
-use crate::fields::{number_or, table_in, text_in};
 use crate::task_rules::broken_task_rule;
 use std::alloc::Global;
 use wf_doc::{Doc, NoMemory, Text};
+use wf_fields::{number_or, table_in, text_in};
 use wf_machine::{RetryLogic, TaskDef, TaskPolicy, Timing};
 
 /// The task definition that the document is, or the first rule that it breaks.

@@ -4,12 +4,12 @@ ghost use Rattle.std.specs.Prelude.{◌≡◌, option_map};
 ghost use Rattle.wf_defs.specs.TaskRules as spec;
 
 use crate::faults::{Broken, first_broken};
-use crate::fields::{
+use crate::names::is_name;
+use wf_doc::Doc;
+use wf_fields::{
     Form, first_misformed, first_misnumbered, is_absent_or_number, is_absent_or_one_of, text_in,
     unless,
 };
-use crate::names::is_name;
-use wf_doc::Doc;
 
 const MOST: u64 = 2_147_483_647;
 

@@ -1,7 +1,6 @@
 -- A node that is found in a list, one turn of a loop after another.
-use Rattle.std.proofs.Common.{◌≡◌, ℕ, ◌+◌, ◌<◌, ◌==◌, Bool, true, false, List, ◌++◌, refl, sym, length, drop, get_or, arith}
-use Rattle.std.proofs.lemmas.Bool.Decides.{nat_tests}
-use Rattle.std.specs.List.{find}
+use Rattle.std.proofs.Common.{◌≡◌, ℕ, ◌+◌, ◌<◌, ◌||◌, Bool, true, false, cond, List, [], ◌∷◌, ◌++◌, refl, sym, subst, length, drop, get_or}
+use Rattle.std.specs.List.{find, list_any}
 use Rattle.std.proofs.lemmas.List.{drop_more}
 use Rattle.std.proofs.lemmas.List.Folds.{find-append}
 use Rattle.std.specs.declared.option.Option.TheVariants.{None, Some}
@@ -34,12 +33,6 @@ inside_case p xs k x found lt is e = rw (drop_more xs k x lt, ← is) (found_fir
 pub after_case : (p : Node → Bool) (xs : List Case) (k : ℕ) (x : Case) → k < length xs → x ≡ get_or xs k x → find p (all_nodes (out-Case x).nodes) ≡ None → find p (all_of_cases (drop (k + 1) xs)) ≡ find p (all_of_cases (drop k xs))
 after_case p xs k x lt is e = sym (rw (drop_more xs k x lt, ← is) (found_later p (all_nodes (out-Case x).nodes) (all_of_cases (drop (k + 1) xs)) e))
 
-pub is_it : (a b : ℕ) → a ≡ b → (a == b) ≡ true
-is_it a b e = grind (arith, nat_tests)
-
-pub is_not_it : (a b : ℕ) → (a ≡ b → ⊥) → (a == b) ≡ false
-is_not_it a b e = grind (arith, nat_tests)
-
 pub at_node : (p : Node → Bool) (xs : List Node) (k : ℕ) (x : Node) → k < length xs → x ≡ get_or xs k x → p x ≡ true → find p (all_nodes (drop k xs)) ≡ Some x
 at_node p xs k x lt is same = rw (drop_more xs k x lt, ← is, same) refl
 
@@ -48,3 +41,29 @@ in_cases p cases nodes found e = found_first p cases nodes found e
 
 pub in_otherwise : (p : Node → Bool) (cases nodes : List Node) → find p cases ≡ None → find p (cases ++ nodes) ≡ find p nodes
 in_otherwise p cases nodes e = found_later p cases nodes e
+
+any_first : (p : Node → Bool) (xs : List Node) (x y : Node) (b : Bool) → cond b (Some y) (find p xs) ≡ Some x → (find p xs ≡ Some x → true ≡ list_any p xs) → true ≡ (b || list_any p xs)
+any_first p xs x y true e later = refl
+any_first p xs x y false e later = later e
+
+-- any passes where one is found
+pub any_found : (p : Node → Bool) (xs : List Node) (x : Node) → find p xs ≡ Some x → true ≡ list_any p xs
+any_found p [] x e = let no : ⊥ = cc in absurd no
+any_found p (y ∷ ys) x e = any_first p ys x y (p y) e (λ later. any_found p ys x later)
+
+none_first : (p : Node → Bool) (xs : List Node) (y : Node) (b : Bool) → cond b (Some y) (find p xs) ≡ None → (find p xs ≡ None → false ≡ list_any p xs) → false ≡ (b || list_any p xs)
+none_first p xs y true e later = let no : ⊥ = cc in absurd no
+none_first p xs y false e later = later e
+
+pub none_found : (p : Node → Bool) (xs : List Node) → find p xs ≡ None → false ≡ list_any p xs
+none_found p [] e = refl
+none_found p (y ∷ ys) e = none_first p ys y (p y) e (λ later. none_found p ys later)
+
+passes_first : (p : Node → Bool) (xs : List Node) (x y : Node) (b : Bool) → p y ≡ b → cond b (Some y) (find p xs) ≡ Some x → (find p xs ≡ Some x → p x ≡ true) → p x ≡ true
+passes_first p xs x y true is e later = let it : y ≡ x = cc in subst (λ n. p n ≡ true) it is
+passes_first p xs x y false is e later = later e
+
+-- the node that is found passes
+pub found_passes : (p : Node → Bool) (xs : List Node) (x : Node) → find p xs ≡ Some x → p x ≡ true
+found_passes p [] x e = let no : ⊥ = cc in absurd no
+found_passes p (y ∷ ys) x e = passes_first p ys x y (p y) refl e (λ later. found_passes p ys x later)

@@ -1,11 +1,13 @@
 -- The last attempt at a node, in the order of the list and by number.
-use Rattle.std.proofs.Common.{◌≡◌, ℕ, ◌+◌, ◌<◌, ◌≤◌, Bool, true, false, if◌then◌else◌, nat_lt, List, [], ◌∷◌, ◌++◌, map, take, length, get_or, Option, None, Some, refl, arith}
+use Rattle.std.proofs.Common.{◌≡◌, ℕ, ◌+◌, ◌<◌, ◌≤◌, Bool, true, false, if◌then◌else◌, nat_lt, List, [], ◌∷◌, ◌++◌, map, take, drop, length, get_or, Option, None, Some, refl, arith}
 use Rattle.std.proofs.lemmas.Bool.Decides.{nat_tests}
-use Rattle.std.proofs.lemmas.List.{take_more}
+use Rattle.std.proofs.lemmas.List.{take_more, drop_more}
+use Rattle.std.proofs.Math.Seq.{drop-length}
 use Rattle.std.specs.Option.{option_map}
 use Rattle.wf_machine.specs.State.{Attempt, RisingFrom}
 use Rattle.wf_machine.specs.Sight.{seen}
 use Rattle.wf_machine.specs.Marks.{is_of, later_one, last_of}
+use Rattle.wf_machine.specs.Naming.{in_later_turn, is_at, latest_of}
 use Rattle.wf_flow.specs.Last.{greater, greatest}
 
 -- ---- in the order of the list
@@ -81,3 +83,14 @@ last_greatest low node iteration (a ∷ rest) rising =
       by_test false None above = refl
       by_test false (Some x) above = refl
       by_test true (Some x) above = let e : nat_lt x.number.0 a.number.0 ≡ false = grind (arith, nat_tests) in rw e refl
+
+-- ---- in the latest turn
+
+-- an attempt before those that were looked at
+pub latest_step : (node : ℕ) (xs : List Attempt) (k next : ℕ) (x : Attempt) → k < length xs → next ≡ k + 1 → x ≡ get_or xs k x
+    → latest_of (map seen (drop k xs)) node ≡ (if is_at node (seen x) then in_later_turn (seen x) (latest_of (map seen (drop next xs)) node) else latest_of (map seen (drop next xs)) node)
+latest_step node xs k next x within follows is = rw (drop_more xs k x within, ← is, follows) refl
+
+-- none of no attempts
+pub latest_none : (node : ℕ) (xs : List Attempt) (k : ℕ) → k ≡ length xs → None ≡ latest_of (map seen (drop k xs)) node
+latest_none node xs k all = rw (all, drop-length xs) refl

@@ -5,3 +5,4 @@ pub mod RecordLemmas
 pub mod RowLemmas
 pub mod FindLemmas
 pub mod LastLemmas
+pub mod TurnLemmas

@@ -7,17 +7,23 @@
 mod attempt;
 mod attempts;
 mod empty;
+mod finding;
 mod flow;
 mod lasting;
+mod naming;
+#[cfg(test)]
+mod naming_tests;
 mod no_memory;
 mod nodes;
 #[cfg(test)]
 mod tests;
+mod turns;
 
 pub use attempt::Attempt;
 pub use flow::{Flow, TaskNos};
+pub use naming::node_named;
 pub use no_memory::NoMemory;
-pub use nodes::{is_simple_at, node_at, takes_update_at};
+pub use nodes::{is_looped, is_simple_at, node_at, takes_update_at};
 pub use wf_machine::TaskResult;
 
 /// Flows in an order that the holder gives them.

@@ -1,94 +1,96 @@
-//! The node of an index, at any depth of a definition.
+//! The node of an index, at any depth of a definition, and what its kind is.
 
-ghost use Rattle.std.specs.Prelude.{◌≡◌, ◌==◌, ◌++◌};
-ghost use Rattle.std.specs.List.{find};
+ghost use Rattle.std.specs.Prelude.{◌≡◌, ◌&&◌};
+ghost use Rattle.std.specs.List.{list_any};
 ghost use Rattle.std.specs.Option.{option_copied};
-ghost use Rattle.wf_machine.specs.declared.definition.Cases.{out-Cases};
-ghost use Rattle.wf_machine.specs.Records.{is_kind_at, is_simple};
+ghost use Rattle.wf_machine.specs.Records.{is_kind_at, is_loop, is_simple};
 ghost use Rattle.wf_machine.specs.Tasks.{takes_update};
-ghost use Rattle.wf_machine.specs.Marks.{all_nodes, all_of_branches, all_of_cases, inside_kind, node_at};
+ghost use Rattle.wf_machine.specs.Marks.{all_nodes, inside_kind, node_at};
+ghost use Rattle.wf_machine.specs.Naming.{has_index, is_looped};
 
-use wf_machine::{Branch, Case, Cases, FlowDef, Node, NodeKind};
+use crate::finding::{NodeTest, find_in};
+use wf_machine::{FlowDef, Node, NodeKind};
+
+#[derive(Drop)]
+struct HasIndex {
+    index: u32,
+}
+
+impl NodeTest for HasIndex {
+    ghost use Rattle.wf_machine.specs.Naming.{has_index};
+
+    ghost passes = { λ test node. has_index test.index node };
+
+    fn passes(&self, node: &Node) -> bool {
+        node.index == self.index
+    }
+}
+
+/// A DO_WHILE that has the node of that index inside.
+#[derive(Drop)]
+struct LoopAround {
+    index: u32,
+}
+
+impl NodeTest for LoopAround {
+    ghost use Rattle.std.specs.Prelude.{◌&&◌};
+    ghost use Rattle.std.specs.List.{list_any};
+    ghost use Rattle.wf_machine.specs.Records.{is_loop};
+    ghost use Rattle.wf_machine.specs.Marks.{inside_kind};
+    ghost use Rattle.wf_machine.specs.Naming.{has_index};
+
+    ghost passes = { λ test node. is_loop node.kind && list_any (has_index test.index) (inside_kind node.kind) };
+
+    fn passes(&self, node: &Node) -> bool {
+        loops_around(&node.kind, self.index)
+    }
+}
 
 /// The node of that index, in the lists inside other nodes too.
 #[tactic(auto, unfolding(wf_machine::specs::Marks::node_at))]
 pub fn node_at(nodes: &[Node], index: u32) -> Option<&Node>
     ensures { option_copied result ≡ node_at nodes.now index }
 {
-    find_in(nodes, index)
+    find_in(nodes, &HasIndex { index })
 }
 
-#[cycle(finding)]
-#[tactic(auto, using(crate::proofs::FindLemmas::inside_node, crate::proofs::FindLemmas::after_node, crate::proofs::FindLemmas::at_node, crate::proofs::FindLemmas::is_not_it))]
-fn find_in(nodes: &[Node], index: u32) -> Option<&Node>
-    ensures { option_copied result ≡ find (λ n. n.index == index) (all_nodes nodes.now) }
+/// Whether the node stands inside a DO_WHILE, at any depth.
+#[tactic(auto, using(crate::proofs::FindLemmas::any_found, crate::proofs::FindLemmas::none_found))]
+pub fn is_looped(nodes: &[Node], node: &Node) -> bool
+    ensures { result ≡ is_looped nodes.now node.now }
 {
-    for node in nodes {
-        if node.index == index {
-            return Some(node);
-        }
-        if let Some(found) = find_inside(&node.kind, index) {
-            return Some(found);
-        }
+    match find_in(nodes, &LoopAround { index: node.index }) {
+        Some(_) => true,
+        None => false,
     }
-    None
 }
 
-#[cycle(finding)]
-#[tactic(auto, using(crate::proofs::RowLemmas::inside_switch, crate::proofs::RowLemmas::inside_fork, crate::proofs::RowLemmas::inside_loop))]
-fn find_inside(kind: &NodeKind, index: u32) -> Option<&Node>
-    ensures { option_copied result ≡ find (λ n. n.index == index) (inside_kind kind.now) }
+#[tactic(auto, using(crate::proofs::FindLemmas::any_found, crate::proofs::FindLemmas::none_found))]
+fn has_index(nodes: &[Node], index: u32) -> bool
+    ensures { result ≡ list_any (has_index index) (all_nodes nodes.now) }
+{
+    match find_in(nodes, &HasIndex { index }) {
+        Some(_) => true,
+        None => false,
+    }
+}
+
+/// Whether it is a DO_WHILE that has the node of that index inside.
+fn loops_around(kind: &NodeKind, index: u32) -> bool
+    ensures { result ≡ (is_loop kind.now && list_any (has_index index) (inside_kind kind.now)) }
 {
     match kind {
-        NodeKind::Switch(choice) => find_in_choice(choice, index),
-        NodeKind::Fork(branches) => find_in_branches(branches.as_slice(), index),
-        NodeKind::Loop(_, body) => find_in(body.as_slice(), index),
-        NodeKind::Simple => None,
-        NodeKind::Join(_) => None,
-        NodeKind::SubFlow(_, _) => None,
-        NodeKind::SetVariable => None,
-        NodeKind::Wait => None,
-        NodeKind::Human => None,
-        NodeKind::Terminate => None,
+        NodeKind::Loop(_, body) => has_index(body.as_slice(), index),
+        NodeKind::Simple => false,
+        NodeKind::Switch(_) => false,
+        NodeKind::Fork(_) => false,
+        NodeKind::Join(_) => false,
+        NodeKind::SubFlow(_, _) => false,
+        NodeKind::SetVariable => false,
+        NodeKind::Wait => false,
+        NodeKind::Human => false,
+        NodeKind::Terminate => false,
     }
-}
-
-#[cycle(finding)]
-#[tactic(auto, using(crate::proofs::FindLemmas::in_cases, crate::proofs::FindLemmas::in_otherwise))]
-fn find_in_choice(choice: &Cases, index: u32) -> Option<&Node>
-    ensures { option_copied result
-        ≡ find (λ n. n.index == index) (all_of_cases (out-Cases choice.now).cases ++ all_nodes (out-Cases choice.now).otherwise) }
-{
-    if let Some(found) = find_in_cases(choice.cases.as_slice(), index) {
-        return Some(found);
-    }
-    find_in(choice.otherwise.as_slice(), index)
-}
-
-#[cycle(finding)]
-#[tactic(auto, using(crate::proofs::FindLemmas::inside_branch, crate::proofs::FindLemmas::after_branch))]
-fn find_in_branches(branches: &[Branch], index: u32) -> Option<&Node>
-    ensures { option_copied result ≡ find (λ n. n.index == index) (all_of_branches branches.now) }
-{
-    for branch in branches {
-        if let Some(found) = find_in(branch.nodes.as_slice(), index) {
-            return Some(found);
-        }
-    }
-    None
-}
-
-#[cycle(finding)]
-#[tactic(auto, using(crate::proofs::FindLemmas::inside_case, crate::proofs::FindLemmas::after_case))]
-fn find_in_cases(cases: &[Case], index: u32) -> Option<&Node>
-    ensures { option_copied result ≡ find (λ n. n.index == index) (all_of_cases cases.now) }
-{
-    for case in cases {
-        if let Some(found) = find_in(case.nodes.as_slice(), index) {
-            return Some(found);
-        }
-    }
-    None
 }
 
 /// Whether the node of that index is there, and a SIMPLE one.

@@ -20,6 +20,6 @@ pub use flows::KeptFlows;
 pub use hands::HandBook;
 pub use kept::KeptFlow;
 pub use no_memory::NoMemory;
-pub use registry::{find_flow_def, flow_def_of, register};
+pub use registry::{find_flow_def, flow_def_of, forget, register, register_all};
 pub use roomy::Roomy;
-pub use tasks::{register_task, register_tasks, task_def_of};
+pub use tasks::{forget_task, register_task, register_tasks, task_def_of};

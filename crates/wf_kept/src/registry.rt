@@ -1,9 +1,9 @@
 //! Registered workflows, searched and kept in the order of their names and versions.
 
-ghost use Rattle.std.specs.Prelude.{◌≡◌, ◌<◌, ◌≤◌, ◌+◌, length, slice_set, Some, IsTrue, if◌then◌else◌};
-ghost use Rattle.std.specs.List.{insert};
-ghost use Rattle.std.specs.Option.{option_copied};
-ghost use Rattle.wf_machine.specs.Calls.{definition_order, flow_def_at, flow_def_for, greater_version, newest_flow_def, with_flow_def};
+ghost use Rattle.std.specs.Prelude.{◌≡◌, ◌<◌, ◌≤◌, ◌+◌, length, slice_set, IfSome, Some, IsTrue, if◌then◌else◌};
+ghost use Rattle.std.specs.List.{insert, remove};
+ghost use Rattle.std.specs.Option.{option_copied, option_map_or};
+ghost use Rattle.wf_machine.specs.Calls.{definition_order, flow_def_at, flow_def_for, greater_version, newest_flow_def, with_flow_def, with_flow_defs, without_flow_def};
 
 use crate::roomy::Roomy;
 use std::cmp::Ordering;
@@ -64,6 +64,39 @@ pub fn register(defs: &mut Roomy<FlowDef>, def: FlowDef)
     } else {
         defs.insert(at, def);
     }
+}
+
+/// Registers the definitions, one after another. It takes no memory.
+pub fn register_all(defs: &mut Roomy<FlowDef>, mut more: Vec<FlowDef>)
+    requires { length more.items ≤ defs.old.spare }
+    ensures { defs.new.items ≡ with_flow_defs more.items defs.old.items }
+{
+    more.reverse();
+    while let Some(def) = more.pop() {
+        register(defs, def);
+    }
+}
+
+/// Forgets the first definition of that name and version. It takes no memory.
+pub fn forget(defs: &mut Roomy<FlowDef>, name: &str, version: u32)
+    ensures { defs.new.items ≡ without_flow_def name.now version defs.old.items }
+{
+    if let Some(at) = place_named(defs.as_slice(), name, version) {
+        defs.remove(at);
+    }
+}
+
+/// Where the first definition of that name and version stands.
+fn place_named(defs: &[FlowDef], name: &str, version: u32) -> Option<usize>
+    ensures within { IfSome result (λ at. at < length defs.now) }
+    ensures taken { without_flow_def name.now version defs.now ≡ option_map_or (remove defs.now) result defs.now }
+{
+    for (i, def) in defs.iter().enumerate() {
+        if def.name.as_str() == name && def.version == version {
+            return Some(i);
+        }
+    }
+    None
 }
 
 /// Where the definition stands or belongs, and whether one of its name and version stands there.

@@ -1,7 +1,7 @@
 //! Lists with room for more.
 
 ghost use Rattle.std.specs.Prelude.{◌≡◌, [], ◌∷◌, ◌++◌, ◌+◌, ◌<◌, ◌≤◌, length, slice_set, OnOk};
-ghost use Rattle.std.specs.List.{insert};
+ghost use Rattle.std.specs.List.{insert, remove};
 
 use std::alloc::{AllocError, Global};
 use std::marker::Model;
@@ -66,6 +66,15 @@ impl<T: Drop> Roomy<T> {
         ensures room { self.old.spare ≤ self.new.spare + 1 }
     {
         let _ = self.items.insert(at, item);
+    }
+
+    /// Takes the item at that place out.
+    pub fn remove(&mut self, at: usize)
+        requires { at < length self.old.items }
+        ensures items { self.new.items ≡ remove self.old.items at }
+        ensures room { self.old.spare ≤ self.new.spare }
+    {
+        let _ = self.items.remove(at);
     }
 
     pub fn set(&mut self, at: usize, item: T)

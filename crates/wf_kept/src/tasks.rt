@@ -1,11 +1,11 @@
 //! Registered tasks, kept in the order of their names.
 
-ghost use Rattle.std.specs.Prelude.{◌≡◌, ◌<◌, ◌≤◌, ◌+◌, length, slice_set, IsTrue, if◌then◌else◌};
-ghost use Rattle.std.specs.List.{insert};
-ghost use Rattle.std.specs.Option.{option_copied};
+ghost use Rattle.std.specs.Prelude.{◌≡◌, ◌<◌, ◌≤◌, ◌+◌, length, slice_set, IfSome, IsTrue, if◌then◌else◌};
+ghost use Rattle.std.specs.List.{insert, remove};
+ghost use Rattle.std.specs.Option.{option_copied, option_map_or};
 ghost use Rattle.std.specs.Ordering.{nat_cmp};
 ghost use Rattle.std.specs.Cmp.Lexicographic.{slice_cmp};
-ghost use Rattle.wf_machine.specs.Calls.{with_task_def, with_task_defs};
+ghost use Rattle.wf_machine.specs.Calls.{with_task_def, with_task_defs, without_task_def};
 ghost use Rattle.wf_machine.specs.Rules.{task_def_named};
 
 use crate::roomy::Roomy;
@@ -42,6 +42,28 @@ pub fn register_tasks(defs: &mut Roomy<TaskDef>, mut more: Vec<TaskDef>)
     while let Some(def) = more.pop() {
         register_task(defs, def);
     }
+}
+
+/// Forgets the first task of that name. It takes no memory.
+pub fn forget_task(defs: &mut Roomy<TaskDef>, name: &str)
+    ensures { defs.new.items ≡ without_task_def name.now defs.old.items }
+{
+    if let Some(at) = place_named(defs.as_slice(), name) {
+        defs.remove(at);
+    }
+}
+
+/// Where the first task of that name stands.
+fn place_named(defs: &[TaskDef], name: &str) -> Option<usize>
+    ensures within { IfSome result (λ at. at < length defs.now) }
+    ensures taken { without_task_def name.now defs.now ≡ option_map_or (remove defs.now) result defs.now }
+{
+    for (i, def) in defs.iter().enumerate() {
+        if def.name.as_str() == name {
+            return Some(i);
+        }
+    }
+    None
 }
 
 /// Where the task stands or belongs, and whether one of its name stands there.

@@ -7,9 +7,9 @@ ghost use Rattle.wf_machine.specs.State.{RisingTo};
 use crate::flows::KeptFlows;
 use crate::hands::HandBook;
 use crate::no_memory::NoMemory;
-use crate::registry::{find_flow_def, flow_def_of, register};
+use crate::registry::{find_flow_def, flow_def_of, forget, register, register_all};
 use crate::roomy::Roomy;
-use crate::tasks::{register_task, task_def_of};
+use crate::tasks::{forget_task, register_task, task_def_of};
 use std::alloc::Global;
 use std::test::Fail;
 use wf_doc::{Doc, Items, Text};
@@ -26,6 +26,8 @@ fn a_list_has_what_was_put_into_it(rt: HostRuntime) -> Result<(), Fail> {
     list.insert(1, 5);
     list.set(0, 3);
     assert_eq!(rt; list.as_slice(), [3, 5, 6].as_slice());
+    list.remove(1);
+    assert_eq!(rt; list.as_slice(), [3, 6].as_slice());
     Ok(())
 }
 
@@ -82,6 +84,40 @@ fn workflows_stand_by_name_and_then_by_version(rt: HostRuntime) -> Result<(), Fa
     Ok(())
 }
 
+#[test]
+fn a_forgotten_workflow_is_found_no_more(rt: HostRuntime) -> Result<(), Fail> {
+    let mut defs = some_flows(rt.alloc())?;
+    forget(&mut defs, "ship", 12);
+    forget(&mut defs, "bill", 1);
+    for (name, version, timeout) in [
+        ("ship", Some(12), None),
+        ("ship", None, Some(40)),
+        ("ship", Some(1), Some(10)),
+        ("bill", None, Some(20)),
+    ] {
+        let found = find_flow_def(defs.as_slice(), name, version).map(|def| def.timeout);
+        assert_eq!(rt; found, timeout);
+    }
+    Ok(())
+}
+
+#[test]
+fn of_two_workflows_the_later_counts(rt: HostRuntime) -> Result<(), Fail> {
+    let mut more = Vec::new(rt.alloc());
+    for (version, timeout) in [(2, 10), (1, 20), (2, 30)] {
+        more.push(flow_def(rt.alloc(), "ship", version, timeout)?)?;
+    }
+    let mut defs = Roomy::new(rt.alloc());
+    defs.reserve(more.len())?;
+    register_all(&mut defs, more);
+    let defs = defs.as_slice();
+    assert_eq!(rt; defs.len(), 2);
+    for (place, timeout) in [(0, 20), (1, 30)] {
+        assert_eq!(rt; defs.get(place).map(|def| def.timeout), Some(timeout));
+    }
+    Ok(())
+}
+
 const TIMING: Timing = Timing {
     retry_count: 3,
     logic: RetryLogic::Linear,
@@ -126,6 +162,23 @@ fn tasks_stand_by_name_once(rt: HostRuntime) -> Result<(), Fail> {
     }
     for (name, rate) in [("pack", Some(4)), ("send", Some(3)), ("sen", None)] {
         assert_eq!(rt; task_def_of(defs, name).map(|def| def.rate), rate);
+    }
+    Ok(())
+}
+
+#[test]
+fn a_forgotten_task_is_found_no_more(rt: HostRuntime) -> Result<(), Fail> {
+    let mut defs = Roomy::new(rt.alloc());
+    for (name, rate) in [("pack", 1), ("label", 2)] {
+        put_task(&mut defs, rt.alloc(), name, rate)?;
+    }
+    forget_task(&mut defs, "pack");
+    forget_task(&mut defs, "send");
+    for (name, rate) in [("pack", None), ("label", Some(2))] {
+        assert_eq!(rt;
+            task_def_of(defs.as_slice(), name).map(|def| def.rate),
+            rate
+        );
     }
     Ok(())
 }

@@ -20,7 +20,7 @@ use Rattle.wf_machine.specs.declared.walking.Next.TheVariants.{Schedule, Join as
 use Rattle.wf_machine.specs.State.{Flow, empty_table}
 use Rattle.wf_machine.specs.Sight.{Seen, Sight, Scene, seen, sight}
 use Rattle.wf_machine.specs.Marks.{next_step, node_at}
-use Rattle.wf_machine.specs.Rules.{Turn, make, made, is_running, fails, is_too_large, task_def_named, new_task, schedule_simple, schedule_kind, flow_output, complete, take_step, pick, is_add, allowed, choose, rule, after, rules_at_most, decide}
+use Rattle.wf_machine.specs.Rules.{Turn, make, made, is_running, fails, is_too_large, task_def_named, filled_in, new_task, is_input_too_large, schedule_task, schedule_simple, schedule_kind, flow_output, complete, take_step, pick, is_add, allowed, choose, rule, after, rules_at_most, decide}
 use Rattle.wf_machine.proofs.PlanLemmas.{seen_new, shown, sight_make}
 
 -- ---- the measure: an attempt that may still be added pays for six rules, and the flow's end for one more
@@ -67,17 +67,20 @@ falls_by limits s false x y p q = q refl
 
 -- ---- rules
 
-falls_simple : (limits : Limits) (s : Sight) (i : ℕ) (node : Node) (def : Option TaskDef) → is_running s.status ≡ true → Falls limits s (schedule_simple limits s i node def ∷ [])
-falls_simple limits s i node None runs = falls_fails limits s (codes "no task definition " ++ node.name) None runs
-falls_simple limits s i node (Some def) runs =
+falls_task : (limits : Limits) (s : Sight) (i : ℕ) (node : Node) (def : TaskDef) (input : Doc) → is_running s.status ≡ true → Falls limits s (schedule_task limits s i node def input ∷ [])
+falls_task limits s i node def input runs =
     falls_by limits s (nat_le limits.attempts (length s.attempts)) (fails (codes "attempt limit") None) _
     (λ h. falls_fails limits s (codes "attempt limit") None runs)
-    (λ h. falls_by limits s (is_too_large limits node.input) (fails (codes "document limit") (Some empty_table)) (Add (new_task i node def))
+    (λ h. falls_by limits s (is_input_too_large limits def input) (fails (codes "document limit") (Some empty_table)) (Add (new_task i node def input))
     (λ k. falls_fails limits s (codes "document limit") (Some empty_table) runs)
-    (λ k. falls_add limits s (new_task i node def) runs (leb-false limits.attempts (length s.attempts) h)))
+    (λ k. falls_add limits s (new_task i node def input) runs (leb-false limits.attempts (length s.attempts) h)))
+
+falls_simple : (limits : Limits) (scene : Scene) (s : Sight) (i : ℕ) (node : Node) (def : Option TaskDef) → is_running s.status ≡ true → Falls limits s (schedule_simple limits scene s i node def ∷ [])
+falls_simple limits scene s i node None runs = falls_fails limits s (codes "no task definition " ++ node.name) None runs
+falls_simple limits scene s i node (Some def) runs = falls_task limits s i node def (filled_in scene s node.input) runs
 
 lowers_kind : (limits : Limits) (scene : Scene) (s : Sight) (i : ℕ) (node : Node) (kind : NodeKind) → is_running s.status ≡ true → Lowers limits s (schedule_kind limits scene s i node kind)
-lowers_kind limits scene s i node Simple runs = falls_simple limits s i node (task_def_named node.name scene.task_defs) runs
+lowers_kind limits scene s i node Simple runs = falls_simple limits scene s i node (task_def_named node.name scene.task_defs) runs
 lowers_kind limits scene s i node (Switch cases) runs = tt
 lowers_kind limits scene s i node (Fork' shape branches) runs = tt
 lowers_kind limits scene s i node (Join references) runs = tt
@@ -104,7 +107,7 @@ lowers_step limits scene s (Schedule index i) runs = lowers_node limits scene s 
 lowers_step limits scene s (Joins index i) runs = tt
 lowers_step limits scene s (Turns index i) runs = tt
 lowers_step limits scene s Waits runs = tt
-lowers_step limits scene s Done runs = falls_complete limits s (flow_output s) runs
+lowers_step limits scene s Done runs = falls_complete limits s (flow_output scene s) runs
 
 lowers_pick : (limits : Limits) (scene : Scene) (s : Sight) → Lowers limits s (pick limits scene s)
 unfolding pick

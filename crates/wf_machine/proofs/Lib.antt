@@ -5,4 +5,3 @@ pub mod MakeLemmas
 pub mod StepLemmas
 pub mod PlaceLemmas
 pub mod HistoryLemmas
-pub mod ServingLemmas

@@ -1,10 +1,11 @@
 -- The place of an entry changes revisions alone.
 use Rattle.std.proofs.Common.{◌≡◌, ℕ, max, Bool, true, false, not, if◌then◌else◌, is_some, List, [], ◌∷◌, ◌++◌, map, Option, None, Some, refl, sym, ap, ◌∙◌}
 use Rattle.std.proofs.lemmas.List.{length-map, map-append}
-use Rattle.std.specs.Prelude.{option_map}
+use Rattle.std.specs.Prelude.{filter, option_map}
 use Rattle.std.specs.List.{find}
 use Rattle.std.specs.Option.{option_map_or}
 use Rattle.wf_doc.specs.declared.doc.Doc.{Doc}
+use Rattle.wf_doc.specs.declared.doc.Doc.TheVariants.{List as Listed}
 use Rattle.wf_names.specs.declared.ids.FlowNo.{FlowNo}
 use Rattle.wf_names.specs.declared.ids.TaskNo.{TaskNo}
 use Rattle.wf_names.specs.declared.refusals.Refusal.TheVariants.{NotFound, StoreFull, DocumentLimit, NotUpdatable}
@@ -14,7 +15,7 @@ use Rattle.wf_machine.specs.declared.definition.FlowDef.{FlowDef}
 use Rattle.wf_machine.specs.declared.definition.TaskDef.{TaskDef}
 use Rattle.wf_machine.specs.declared.calling.TaskResult.{TaskResult}
 use Rattle.wf_machine.specs.declared.calling.Call.{Call}
-use Rattle.wf_machine.specs.declared.calling.Call.TheVariants.{PutTaskDefs, AddFlowDef, Start, GetFlow, Poll, GetTask, Update}
+use Rattle.wf_machine.specs.declared.calling.Call.TheVariants.{PutTaskDefs, UpdateTaskDef, TaskDefs, TaskDefNamed, DropTaskDef, AddFlowDef, PutFlowDefs, FlowDefs, FlowDefNamed, DropFlowDef, Start, GetFlow, Running, Poll, GetTask, Update}
 use Rattle.wf_machine.specs.declared.calling.Reply.TheVariants.{Json, Nothing}
 use Rattle.wf_machine.specs.declared.calling.Entry.{Entry}
 use Rattle.wf_machine.specs.State.{Attempt, Flow, Kept, State, attempt_numbered, with_attempt}
@@ -22,7 +23,9 @@ use Rattle.wf_machine.specs.Records.{is_kind_at}
 use Rattle.wf_machine.specs.Tasks.{handed_out, takes_update}
 use Rattle.wf_machine.specs.Queues.{Waiting, waiting_in, all_waiting, first_waiting}
 use Rattle.wf_machine.specs.Documents.{task_document}
-use Rattle.wf_machine.specs.Calls.{Stepped, stepped, call_made, put_task_defs, register, start, start_of, started, refused, is_full, is_too_long, flow_def_at, flow_def_for, is_flow, has_attempt, flow_numbered, flow_of_task, with_kept, get_flow, get_task, task_read, poll, hand_over, update, update_of, is_wanted, flow_updated, task_updated, settled_with, step}
+use Rattle.wf_machine.specs.Naming.{with_template}
+use Rattle.wf_machine.specs.Rules.{task_def_named}
+use Rattle.wf_machine.specs.Calls.{Stepped, stepped, call_made, put_task_defs, update_task_def, drop_task_def, get_task_def, register, put_flow_defs, drop_flow_def, get_flow_def, get_running, runs_as, id_of, start, start_of, start_with, started, refused, is_full, is_too_long, flow_def_at, flow_def_for, is_flow, has_attempt, flow_numbered, flow_of_task, with_kept, get_flow, get_task, task_read, poll, hand_over, update, update_of, is_wanted, flow_updated, task_updated, settled_with, step}
 use Rattle.wf_machine.specs.History.{unplaced, stored}
 
 -- what is stored of what a step leaves
@@ -77,16 +80,51 @@ started-stored : (limits : Limits) (place e : ℕ) (def : FlowDef) (input : Doc)
     → stored_step (started limits place e def input correlation s) ≡ started limits 0 e def input correlation (stored s)
 started-stored limits place e def input correlation s = rw map-append refl
 
-start_of-stored : (limits : Limits) (place e : ℕ) (o : Option FlowDef) (input : Doc) (correlation : List ℕ) (s : State)
-    → stored_step (start_of limits place e o input correlation s) ≡ start_of limits 0 e o input correlation (stored s)
-start_of-stored limits place e None input correlation s = refl
-start_of-stored limits place e (Some def) input correlation s =
+start_with-stored : (limits : Limits) (place e : ℕ) (def : FlowDef) (input : Doc) (correlation : List ℕ) (s : State)
+    → stored_step (start_with limits place e def input correlation s) ≡ start_with limits 0 e def input correlation (stored s)
+start_with-stored limits place e def input correlation s =
     let long = is_too_long limits input in
     stored-if (is_full limits s) (is_full limits (stored s)) (refused StoreFull s) (if long then refused DocumentLimit s else started limits place e def input correlation s)
     (refused StoreFull (stored s)) (if long then refused DocumentLimit (stored s) else started limits 0 e def input correlation (stored s))
     (full-stored limits s) refl
     (stored-if long long (refused DocumentLimit s) (started limits place e def input correlation s) (refused DocumentLimit (stored s))
     (started limits 0 e def input correlation (stored s)) refl refl (started-stored limits place e def input correlation s))
+
+start_of-stored : (limits : Limits) (place e : ℕ) (o : Option FlowDef) (input : Doc) (correlation : List ℕ) (s : State)
+    → stored_step (start_of limits place e o input correlation s) ≡ start_of limits 0 e o input correlation (stored s)
+start_of-stored limits place e None input correlation s = refl
+start_of-stored limits place e (Some def) input correlation s = start_with-stored limits place e def (with_template def.template input) correlation s
+
+task_def-stored : (o : Option TaskDef) (s : State)
+    → stored_step (option_map_or (λ (d : TaskDef). stepped s (Json d.document)) o (refused NotFound s))
+    ≡ option_map_or (λ (d : TaskDef). stepped (stored s) (Json d.document)) o (refused NotFound (stored s))
+task_def-stored None s = refl
+task_def-stored (Some d) s = refl
+
+flow_def-stored : (o : Option FlowDef) (s : State)
+    → stored_step (option_map_or (λ (d : FlowDef). stepped s (Json d.document)) o (refused NotFound s))
+    ≡ option_map_or (λ (d : FlowDef). stepped (stored s) (Json d.document)) o (refused NotFound (stored s))
+flow_def-stored None s = refl
+flow_def-stored (Some d) s = refl
+
+put_flows-stored : (place e : ℕ) (defs : List FlowDef) (s : State) → stored_step (put_flow_defs place e defs s) ≡ put_flow_defs 0 e defs (stored s)
+put_flows-stored place e [] s = refl
+put_flows-stored place e (c ∷ cs) s = refl
+
+running-stored : (mark : ℕ) (name : List ℕ) (version : Option ℕ) (flows : List Kept)
+    → map (id_of mark) (filter (runs_as name version) (map unplaced flows)) ≡ map (id_of mark) (filter (runs_as name version) flows)
+running-stored mark name version [] = refl
+running-stored mark name version (k ∷ ks) = by_test (runs_as name version k) (running-stored mark name version ks) where
+  by_test : (b : Bool)
+      → map (id_of mark) (filter (runs_as name version) (map unplaced ks)) ≡ map (id_of mark) (filter (runs_as name version) ks)
+      → map (id_of mark) (if b then unplaced k ∷ filter (runs_as name version) (map unplaced ks) else filter (runs_as name version) (map unplaced ks))
+      ≡ map (id_of mark) (if b then k ∷ filter (runs_as name version) ks else filter (runs_as name version) ks)
+  by_test true h = ap (λ ids. id_of mark k ∷ ids) h
+  by_test false h = h
+
+get_running-stored : (name : List ℕ) (version : Option ℕ) (s : State) → stored_step (get_running name version s) ≡ get_running name version (stored s)
+unfolding get_running
+get_running-stored name version s = ap (λ ids. stepped (stored s) (Json (Listed ids))) (sym (running-stored s.mark name version s.flows))
 
 flow_read-stored : (number : FlowNo) (tasks : Bool) (s : State) → stored_step (get_flow number tasks s) ≡ get_flow number tasks (stored s)
 unfolding get_flow
@@ -155,14 +193,29 @@ update-stored limits place e wanted task outcome s =
 
 -- a call at any place leaves of the stored state what it leaves at none
 call-stored : (limits : Limits) (place e : ℕ) (call : Call) (s : State) → stored_step (call_made limits place e call s) ≡ call_made limits 0 e call (stored s)
-unfolding register start
+unfolding register start update_task_def drop_task_def get_task_def get_flow_def drop_flow_def
 call-stored limits place e (PutTaskDefs defs) s = put-stored place e defs s
+call-stored limits place e (UpdateTaskDef def) s =
+    let found = is_some (task_def_named def.name s.task_defs) in
+    stored-if found found _ _ _ _ refl refl refl
+call-stored limits place e TaskDefs s = refl
+call-stored limits place e (TaskDefNamed name) s = task_def-stored (task_def_named name s.task_defs) s
+call-stored limits place e (DropTaskDef name) s =
+    let found = is_some (task_def_named name s.task_defs) in
+    stored-if found found _ _ _ _ refl refl refl
 call-stored limits place e (AddFlowDef def) s =
     let found = is_some (flow_def_at def.name def.version s.flow_defs) in
+    stored-if found found _ _ _ _ refl refl refl
+call-stored limits place e (PutFlowDefs defs) s = put_flows-stored place e defs s
+call-stored limits place e FlowDefs s = refl
+call-stored limits place e (FlowDefNamed name version) s = flow_def-stored (flow_def_for name version s.flow_defs) s
+call-stored limits place e (DropFlowDef name version) s =
+    let found = is_some (flow_def_at name version s.flow_defs) in
     stored-if found found _ _ _ _ refl refl refl
 call-stored limits place e (Start name version input correlation) s =
     start_of-stored limits place e (flow_def_for name version s.flow_defs) input correlation s
 call-stored limits place e (GetFlow number tasks) s = flow_read-stored number tasks s
+call-stored limits place e (Running name version) s = get_running-stored name version s
 call-stored limits place e (Poll name worker) s = poll-stored place e name worker s
 call-stored limits place e (GetTask task) s = task_read-stored task s
 call-stored limits place e (Update wanted task outcome) s = update-stored limits place e wanted task outcome s

@@ -49,7 +49,7 @@ plan_decides limits scene e t = made_planned limits scene e (rules_at_most limit
 
 abbrev pub seen_new : NewAttempt → Seen
 seen_new n =
-    record { node = n.node; iteration = n.iteration; status = Scheduled; output = empty_table; turn = 0; superseded = false }
+    record { node = n.node; iteration = n.iteration; status = Scheduled; input = n.input; output = empty_table; turn = 0; superseded = false }
 
 abbrev pub seen_canceled : Seen → Seen
 seen_canceled s = if task_is_open s.status then record s { status = Canceled } else s

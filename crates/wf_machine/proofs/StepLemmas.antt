@@ -11,14 +11,16 @@ use Rattle.wf_machine.specs.declared.definition.FlowDef.{FlowDef}
 use Rattle.wf_machine.specs.declared.definition.TaskDef.{TaskDef}
 use Rattle.wf_machine.specs.declared.calling.TaskResult.{TaskResult}
 use Rattle.wf_machine.specs.declared.calling.Call.{Call}
-use Rattle.wf_machine.specs.declared.calling.Call.TheVariants.{PutTaskDefs, AddFlowDef, Start, GetFlow, Poll, GetTask, Update}
+use Rattle.wf_machine.specs.declared.calling.Call.TheVariants.{PutTaskDefs, UpdateTaskDef, TaskDefs, TaskDefNamed, DropTaskDef, AddFlowDef, PutFlowDefs, FlowDefs, FlowDefNamed, DropFlowDef, Start, GetFlow, Running, Poll, GetTask, Update}
 use Rattle.wf_machine.specs.declared.calling.Reply.{Reply}
 use Rattle.wf_machine.specs.declared.calling.Entry.{Entry}
 use Rattle.wf_machine.specs.State.{Attempt, Flow, Kept, State, attempt_numbered}
 use Rattle.wf_machine.specs.Records.{is_kind_at}
 use Rattle.wf_machine.specs.Tasks.{takes_update}
+use Rattle.wf_machine.specs.Naming.{with_template}
 use Rattle.wf_machine.specs.Queues.{Waiting, next_waiting}
-use Rattle.wf_machine.specs.Calls.{Stepped, stepped, step, entry_of, call_made, put_task_defs, register, start, start_of, started, refused, is_full, is_too_long, flow_def_at, flow_def_for, flow_numbered, flow_of_task, get_flow, get_task, task_read, poll, hand_over, update, update_of, is_wanted, flow_updated, task_updated, settled_with, is_starved}
+use Rattle.wf_machine.specs.Rules.{task_def_named}
+use Rattle.wf_machine.specs.Calls.{Stepped, stepped, step, entry_of, call_made, put_task_defs, update_task_def, drop_task_def, get_task_def, register, put_flow_defs, drop_flow_def, get_flow_def, get_running, start, start_of, start_with, started, refused, is_full, is_too_long, flow_def_at, flow_def_for, flow_numbered, flow_of_task, get_flow, get_task, task_read, poll, hand_over, update, update_of, is_wanted, flow_updated, task_updated, settled_with, is_starved}
 
 abbrev IsFed : Stepped → Type 0
 IsFed x = is_starved x.reply ≡ false
@@ -35,11 +37,18 @@ fed-put : (place e : ℕ) (defs : List TaskDef) (s : State) → IsFed (put_task_
 fed-put place e [] s = refl
 fed-put place e (c ∷ cs) s = refl
 
-fed-start_of : (limits : Limits) (place e : ℕ) (def : Option FlowDef) (input : Doc) (correlation : List ℕ) (s : State) → IsFed (start_of limits place e def input correlation s)
-fed-start_of limits place e None input correlation s = refl
-fed-start_of limits place e (Some def) input correlation s =
+fed-start_with : (limits : Limits) (place e : ℕ) (def : FlowDef) (input : Doc) (correlation : List ℕ) (s : State) → IsFed (start_with limits place e def input correlation s)
+fed-start_with limits place e def input correlation s =
     fed-if (is_full limits s) (refused StoreFull s) _ refl
     (fed-if (is_too_long limits input) (refused DocumentLimit s) (started limits place e def input correlation s) refl refl)
+
+fed-start_of : (limits : Limits) (place e : ℕ) (def : Option FlowDef) (input : Doc) (correlation : List ℕ) (s : State) → IsFed (start_of limits place e def input correlation s)
+fed-start_of limits place e None input correlation s = refl
+fed-start_of limits place e (Some def) input correlation s = fed-start_with limits place e def (with_template def.template input) correlation s
+
+fed-put_flows : (place e : ℕ) (defs : List FlowDef) (s : State) → IsFed (put_flow_defs place e defs s)
+fed-put_flows place e [] s = refl
+fed-put_flows place e (c ∷ cs) s = refl
 
 fed-task_read : (task : TaskNo) (s : State) (f : Flow) → IsFed (task_read task s f)
 fed-task_read task s f = fed-found (attempt_numbered task f.attempts) _ (refused NotFound s) (λ a. refl) refl
@@ -56,8 +65,17 @@ fed-update_of limits place e wanted task outcome (Some k) s =
     (fed-found (attempt_numbered task k.flow.attempts) _ (refused NotFound s) (λ a. fed-task_updated limits place e outcome k.flow a s) refl) refl
 
 pub never_starved : (limits : Limits) (place e : ℕ) (call : Call) (s : State) → is_starved (call_made limits place e call s).reply ≡ false
-unfolding register start get_flow get_task poll update
+unfolding register start get_flow get_task poll update update_task_def drop_task_def get_task_def get_flow_def drop_flow_def get_running
 never_starved limits place e (PutTaskDefs defs) s = fed-put place e defs s
+never_starved limits place e (UpdateTaskDef def) s = fed-if (is_some (task_def_named def.name s.task_defs)) _ (refused NotFound s) refl refl
+never_starved limits place e TaskDefs s = refl
+never_starved limits place e (TaskDefNamed name) s = fed-found (task_def_named name s.task_defs) _ (refused NotFound s) (λ d. refl) refl
+never_starved limits place e (DropTaskDef name) s = fed-if (is_some (task_def_named name s.task_defs)) _ (refused NotFound s) refl refl
+never_starved limits place e (PutFlowDefs defs) s = fed-put_flows place e defs s
+never_starved limits place e FlowDefs s = refl
+never_starved limits place e (FlowDefNamed name version) s = fed-found (flow_def_for name version s.flow_defs) _ (refused NotFound s) (λ d. refl) refl
+never_starved limits place e (DropFlowDef name version) s = fed-if (is_some (flow_def_at name version s.flow_defs)) _ (refused NotFound s) refl refl
+never_starved limits place e (Running name version) s = refl
 never_starved limits place e (AddFlowDef def) s =
     fed-if (is_some (flow_def_at def.name def.version s.flow_defs)) (refused Exists s) _ refl refl
 never_starved limits place e (Start name version input correlation) s =

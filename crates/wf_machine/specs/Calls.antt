@@ -1,11 +1,12 @@
 -- One step of the machine: what each call makes of the state, and its reply.
-use Rattle.std.specs.Prelude.{◌≡◌, ℕ, ◌+◌, ◌≤◌, ◌^◌, ◌==◌, ◌&&◌, ◌||◌, max, nat_le, nat_lt, Bool, true, false, not, if◌then◌else◌, is_some, List, [], ◌∷◌, ◌++◌, length, map, Option, None, Some}
+use Rattle.std.specs.Prelude.{◌≡◌, ℕ, ◌+◌, ◌≤◌, ◌^◌, ◌==◌, ◌&&◌, ◌||◌, max, nat_le, nat_lt, Bool, true, false, not, if◌then◌else◌, is_some, List, [], ◌∷◌, ◌++◌, length, map, filter, Option, None, Some}
 use Rattle.std.specs.List.{find}
 use Rattle.std.specs.Option.{option_map_or}
 use Rattle.std.specs.Cmp.Lexicographic.{slice_cmp}
 use Rattle.std.specs.Ordering.{nat_cmp, match_ordering, ordering_then}
 use Rattle.std.specs.declared.cmp.Ordering.{Ordering}
 use Rattle.wf_doc.specs.declared.doc.Doc.{Doc}
+use Rattle.wf_doc.specs.declared.doc.Doc.TheVariants.{Text, List as Listed}
 use Rattle.wf_doc.specs.Json.{printed}
 use Rattle.wf_names.specs.declared.ids.FlowNo.{FlowNo}
 use Rattle.wf_names.specs.declared.ids.TaskNo.{TaskNo}
@@ -18,19 +19,20 @@ use Rattle.wf_machine.specs.declared.definition.FlowDef.{FlowDef}
 use Rattle.wf_machine.specs.declared.definition.TaskDef.{TaskDef}
 use Rattle.wf_machine.specs.declared.calling.TaskResult.{TaskResult}
 use Rattle.wf_machine.specs.declared.calling.Call.{Call}
-use Rattle.wf_machine.specs.declared.calling.Call.TheVariants.{PutTaskDefs, AddFlowDef, Start, GetFlow, Poll, GetTask, Update}
+use Rattle.wf_machine.specs.declared.calling.Call.TheVariants.{PutTaskDefs, UpdateTaskDef, TaskDefs, TaskDefNamed, DropTaskDef, AddFlowDef, PutFlowDefs, FlowDefs, FlowDefNamed, DropFlowDef, Start, GetFlow, Running, Poll, GetTask, Update}
 use Rattle.wf_machine.specs.declared.calling.Reply.{Reply}
 use Rattle.wf_machine.specs.declared.calling.Reply.TheVariants.{Accepted, Id, Json, Nothing, Refused}
 use Rattle.wf_machine.specs.declared.calling.Entry.{Entry}
 use Rattle.wf_machine.specs.Text.{same_text}
 use Rattle.wf_machine.specs.State.{Attempt, Flow, Kept, State, attempt_numbered, new_flow, with_attempt}
 use Rattle.wf_machine.specs.Sight.{scene_in}
-use Rattle.wf_machine.specs.Rules.{Turn, decide}
+use Rattle.wf_machine.specs.Naming.{with_template}
+use Rattle.wf_machine.specs.Rules.{Turn, decide, is_running, is_task_named, task_def_named}
 use Rattle.wf_machine.specs.Plans.{turn_at}
 use Rattle.wf_machine.specs.Records.{is_kind_at, is_simple}
 use Rattle.wf_machine.specs.Tasks.{handed_out, is_result_status, result_applied, takes_update}
 use Rattle.wf_machine.specs.Queues.{Waiting, next_waiting, with_hand}
-use Rattle.wf_machine.specs.Documents.{flow_document, task_document}
+use Rattle.wf_machine.specs.Documents.{flow_document, flow_id, task_document}
 
 -- what a step leaves, and its reply
 pub record Stepped : Type 0 where
@@ -80,13 +82,14 @@ abbrev pub flow_def_for : List ℕ → Option ℕ → List FlowDef → Option Fl
 flow_def_for name None defs = newest_flow_def name defs
 flow_def_for name (Some version) defs = flow_def_at name version defs
 
--- ---- calls, each by its refusals in their order and then by what it changes
+-- ---- registrations: each by its refusals in their order, and then by what it changes
 
--- a registration is refused where the name and version are registered
-unfoldable pub register : ℕ → ℕ → FlowDef → State → Stepped
-register place e def s =
-    if is_some (flow_def_at def.name def.version s.flow_defs) then refused Exists s
-    else record { state = record s { last = e; flow_defs = with_flow_def def s.flow_defs; defs_revision = place }; reply = Accepted }
+-- the definitions change at the moment e, by the entry at that place
+abbrev pub with_task_list : ℕ → ℕ → List TaskDef → State → Stepped
+with_task_list place e defs s = stepped (record s { last = e; task_defs = defs; defs_revision = place }) Accepted
+
+abbrev pub with_flow_list : ℕ → ℕ → List FlowDef → State → Stepped
+with_flow_list place e defs s = stepped (record s { last = e; flow_defs = defs; defs_revision = place }) Accepted
 
 -- the list in the order of names, with the task in it in place of one of its name
 abbrev pub with_task_def : TaskDef → List TaskDef → List TaskDef
@@ -98,11 +101,76 @@ abbrev pub with_task_defs : List TaskDef → List TaskDef → List TaskDef
 with_task_defs [] ds = ds
 with_task_defs (c ∷ cs) ds = with_task_defs cs (with_task_def c ds)
 
+-- the list without the first task of that name
+abbrev pub without_task_def : List ℕ → List TaskDef → List TaskDef
+without_task_def name [] = []
+without_task_def name (d ∷ ds) = if is_task_named name d then ds else d ∷ without_task_def name ds
+
 -- an empty list registers nothing
 abbrev pub put_task_defs : ℕ → ℕ → List TaskDef → State → Stepped
 put_task_defs place e [] s = stepped s Accepted
-put_task_defs place e (c ∷ cs) s =
-    stepped (record s { last = e; task_defs = with_task_defs (c ∷ cs) s.task_defs; defs_revision = place }) Accepted
+put_task_defs place e (c ∷ cs) s = with_task_list place e (with_task_defs (c ∷ cs) s.task_defs) s
+
+-- a task of that name has to be registered
+unfoldable pub update_task_def : ℕ → ℕ → TaskDef → State → Stepped
+update_task_def place e def s =
+    if is_some (task_def_named def.name s.task_defs) then with_task_list place e (with_task_def def s.task_defs) s
+    else refused NotFound s
+
+unfoldable pub drop_task_def : ℕ → ℕ → List ℕ → State → Stepped
+drop_task_def place e name s =
+    if is_some (task_def_named name s.task_defs) then with_task_list place e (without_task_def name s.task_defs) s
+    else refused NotFound s
+
+-- a registration is refused where the name and version are registered
+unfoldable pub register : ℕ → ℕ → FlowDef → State → Stepped
+register place e def s =
+    if is_some (flow_def_at def.name def.version s.flow_defs) then refused Exists s
+    else with_flow_list place e (with_flow_def def s.flow_defs) s
+
+-- of two of the same name and version the later counts
+abbrev pub with_flow_defs : List FlowDef → List FlowDef → List FlowDef
+with_flow_defs [] ds = ds
+with_flow_defs (c ∷ cs) ds = with_flow_defs cs (with_flow_def c ds)
+
+-- the list without the first definition of that name and version
+abbrev pub without_flow_def : List ℕ → ℕ → List FlowDef → List FlowDef
+without_flow_def name version [] = []
+without_flow_def name version (d ∷ ds) = if is_version name version d then ds else d ∷ without_flow_def name version ds
+
+-- an empty list registers nothing
+abbrev pub put_flow_defs : ℕ → ℕ → List FlowDef → State → Stepped
+put_flow_defs place e [] s = stepped s Accepted
+put_flow_defs place e (c ∷ cs) s = with_flow_list place e (with_flow_defs (c ∷ cs) s.flow_defs) s
+
+unfoldable pub drop_flow_def : ℕ → ℕ → List ℕ → ℕ → State → Stepped
+drop_flow_def place e name version s =
+    if is_some (flow_def_at name version s.flow_defs) then with_flow_list place e (without_flow_def name version s.flow_defs) s
+    else refused NotFound s
+
+-- ---- reading what is registered: as it was given
+
+abbrev pub listed : List Doc → State → Stepped
+listed docs s = stepped s (Json (Listed docs))
+
+-- all tasks, by name
+abbrev pub get_task_defs : State → Stepped
+get_task_defs s = listed (map (λ (d : TaskDef). d.document) s.task_defs) s
+
+unfoldable pub get_task_def : List ℕ → State → Stepped
+get_task_def name s =
+    option_map_or (λ (d : TaskDef). stepped s (Json d.document)) (task_def_named name s.task_defs) (refused NotFound s)
+
+-- all workflows, by name and then by version
+abbrev pub get_flow_defs : State → Stepped
+get_flow_defs s = listed (map (λ (d : FlowDef). d.document) s.flow_defs) s
+
+-- without a version that of the greatest
+unfoldable pub get_flow_def : List ℕ → Option ℕ → State → Stepped
+get_flow_def name version s =
+    option_map_or (λ (d : FlowDef). stepped s (Json d.document)) (flow_def_for name version s.flow_defs) (refused NotFound s)
+
+-- ---- starts
 
 -- the store holds as many flows as it may, or no number is left
 abbrev pub is_full : Limits → State → Bool
@@ -126,12 +194,16 @@ started limits place e def input correlation s =
       reply = Id kind.Flow s.next_flow;
     }
 
-abbrev pub start_of : Limits → ℕ → ℕ → Option FlowDef → Doc → List ℕ → State → Stepped
-start_of limits place e None input correlation s = refused NotFound s
-start_of limits place e (Some def) input correlation s =
+-- the input has the keys of the definition's template that it lacks
+abbrev pub start_with : Limits → ℕ → ℕ → FlowDef → Doc → List ℕ → State → Stepped
+start_with limits place e def input correlation s =
     if is_full limits s then refused StoreFull s
     else if is_too_long limits input then refused DocumentLimit s
     else started limits place e def input correlation s
+
+abbrev pub start_of : Limits → ℕ → ℕ → Option FlowDef → Doc → List ℕ → State → Stepped
+start_of limits place e None input correlation s = refused NotFound s
+start_of limits place e (Some def) input correlation s = start_with limits place e def (with_template def.template input) correlation s
 
 unfoldable pub start : Limits → ℕ → ℕ → List ℕ → Option ℕ → Doc → List ℕ → State → Stepped
 start limits place e name version input correlation s =
@@ -161,11 +233,26 @@ with_kept k flows = map (λ x. if is_flow k.flow.number x then k else x) flows
 abbrev pub with_flow : ℕ → Flow → State → State
 with_flow place flow s = record s { flows = with_kept (record { flow = flow; revision = place }) s.flows }
 
--- ---- reading
+-- ---- reading flows and attempts
 
 unfoldable pub get_flow : FlowNo → Bool → State → Stepped
 get_flow number tasks s =
     option_map_or (λ (k : Kept). stepped s (Json (flow_document s.mark tasks k.flow))) (flow_numbered number s.flows) (refused NotFound s)
+
+-- a flow of that name, and of that version where one is given
+abbrev pub is_of : List ℕ → Option ℕ → FlowDef → Bool
+is_of name None def = is_named name def
+is_of name (Some version) def = is_version name version def
+
+abbrev pub runs_as : List ℕ → Option ℕ → Kept → Bool
+runs_as name version k = is_running k.flow.status && is_of name version k.flow.def
+
+abbrev pub id_of : ℕ → Kept → Doc
+id_of mark k = Text (flow_id mark k.flow.number)
+
+-- the ids of the running flows of a workflow, by number
+unfoldable pub get_running : List ℕ → Option ℕ → State → Stepped
+get_running name version s = listed (map (id_of s.mark) (filter (runs_as name version) s.flows)) s
 
 abbrev pub task_read : TaskNo → State → Flow → Stepped
 task_read task s f =
@@ -231,9 +318,18 @@ IsProper call = Unit {0}
 -- what the call makes of the state at the moment e, as the entry at that place
 abbrev pub call_made : Limits → ℕ → ℕ → Call → State → Stepped
 call_made limits place e (PutTaskDefs defs) s = put_task_defs place e defs s
+call_made limits place e (UpdateTaskDef def) s = update_task_def place e def s
+call_made limits place e TaskDefs s = get_task_defs s
+call_made limits place e (TaskDefNamed name) s = get_task_def name s
+call_made limits place e (DropTaskDef name) s = drop_task_def place e name s
 call_made limits place e (AddFlowDef def) s = register place e def s
+call_made limits place e (PutFlowDefs defs) s = put_flow_defs place e defs s
+call_made limits place e FlowDefs s = get_flow_defs s
+call_made limits place e (FlowDefNamed name version) s = get_flow_def name version s
+call_made limits place e (DropFlowDef name version) s = drop_flow_def place e name version s
 call_made limits place e (Start name version input correlation) s = start limits place e name version input correlation s
 call_made limits place e (GetFlow number tasks) s = get_flow number tasks s
+call_made limits place e (Running name version) s = get_running name version s
 call_made limits place e (Poll name worker) s = poll place e name worker s
 call_made limits place e (GetTask task) s = get_task task s
 call_made limits place e (Update wanted task outcome) s = update limits place e wanted task outcome s

@@ -3,6 +3,8 @@ pub mod Text
 pub mod State
 pub mod Sight
 pub mod Marks
+pub mod Naming
+pub mod Choices
 pub mod Rules
 pub mod Records
 pub mod Plans
@@ -12,6 +14,3 @@ pub mod Documents
 pub mod Calls
 pub mod History
 pub mod Replies
-pub mod Moments
-pub mod Requests
-pub mod Serving

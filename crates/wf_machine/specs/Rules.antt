@@ -1,11 +1,11 @@
 -- The decider: the first rule that applies, what it does, and the flow when none applies any more.
-use Rattle.std.specs.Prelude.{ℕ, zero, suc, ◌+◌, ◌-◌, ◌*◌, ◌^◌, max, Bool, true, false, if◌then◌else◌, ◌&&◌, ◌||◌, nat_lt, nat_le, not, List, [], ◌∷◌, ◌++◌, map, length, slice_get, codes, Option, None, Some, option_map, option_and_then}
+use Rattle.std.specs.Prelude.{ℕ, zero, suc, ◌+◌, ◌-◌, ◌*◌, ◌^◌, max, Bool, true, false, if◌then◌else◌, ◌&&◌, ◌||◌, nat_lt, nat_le, List, [], ◌∷◌, ◌++◌, length, slice_get, codes, Option, None, Some, option_map, option_and_then}
 use Rattle.std.specs.List.{find, list_any}
 use Rattle.std.specs.Option.{option_map_or}
 use Rattle.wf_doc.specs.declared.doc.Doc.{Doc}
-use Rattle.wf_doc.specs.Doc.{depth}
+use Rattle.wf_doc.specs.Doc.{as_table, depth}
 use Rattle.wf_doc.specs.Json.{printed}
-use Rattle.wf_names.specs.declared.ids.TaskNo.{TaskNo}
+use Rattle.wf_expr.specs.Filling.{filled}
 use Rattle.wf_names.specs.declared.statuses.TaskStatus.TheVariants.{Scheduled}
 use Rattle.wf_names.specs.declared.statuses.FlowStatus.{FlowStatus}
 use Rattle.wf_names.specs.declared.statuses.FlowStatus.TheVariants.{Running, Completed, Failed}
@@ -22,6 +22,7 @@ use Rattle.wf_machine.specs.State.{Attempt, Flow, empty_table, new_attempt, flow
 use Rattle.wf_machine.specs.Text.{same_text}
 use Rattle.wf_machine.specs.Sight.{Seen, Sight, Scene, sight}
 use Rattle.wf_machine.specs.Marks.{last_of, next_step, node_at}
+use Rattle.wf_machine.specs.Naming.{names, with_template}
 
 -- ---- what an act makes
 
@@ -77,21 +78,34 @@ is_task_named name def = same_text def.name name
 abbrev pub task_def_named : List ℕ → List TaskDef → Option TaskDef
 task_def_named name defs = find (is_task_named name) defs
 
--- the attempt at a SIMPLE node whose task is registered so
-abbrev pub new_task : ℕ → Node → TaskDef → NewAttempt
-new_task i node def = record { node = node.index; iteration = i; timing = def.timing; delay = node.start_delay; input = node.input }
+-- a document with each expression replaced by what it names in the flow
+abbrev pub filled_in : Scene → Sight → Doc → Doc
+filled_in scene s d = filled (names scene.mark s) d
 
--- a SIMPLE node is scheduled, or the flow ends for want of a definition, of a place or of room for its input
-abbrev pub schedule_simple : Limits → Sight → ℕ → Node → Option TaskDef → Act
-schedule_simple limits s i node None = fails (codes "no task definition " ++ node.name) None
-schedule_simple limits s i node (Some def) =
+-- the attempt at a SIMPLE node whose task is registered so, with that filled input
+abbrev pub new_task : ℕ → Node → TaskDef → Doc → NewAttempt
+new_task i node def input =
+    record { node = node.index; iteration = i; timing = def.timing; delay = node.start_delay; input = with_template def.template input }
+
+-- the filled input is too large, or is it with the template's keys
+abbrev pub is_input_too_large : Limits → TaskDef → Doc → Bool
+is_input_too_large limits def input = is_too_large limits input || is_too_large limits (with_template def.template input)
+
+-- a SIMPLE node is scheduled with that filled input, or the flow ends for want of a place or of room for the input
+abbrev pub schedule_task : Limits → Sight → ℕ → Node → TaskDef → Doc → Act
+schedule_task limits s i node def input =
     if nat_le limits.attempts (length s.attempts) then fails (codes "attempt limit") None
-    else if is_too_large limits node.input then fails (codes "document limit") (Some empty_table)
-    else Add (new_task i node def)
+    else if is_input_too_large limits def input then fails (codes "document limit") (Some empty_table)
+    else Add (new_task i node def input)
+
+-- without a registered task the flow ends
+abbrev pub schedule_simple : Limits → Scene → Sight → ℕ → Node → Option TaskDef → Act
+schedule_simple limits scene s i node None = fails (codes "no task definition " ++ node.name) None
+schedule_simple limits scene s i node (Some def) = schedule_task limits s i node def (filled_in scene s node.input)
 
 -- a node is scheduled by its kind: a kind that isn't built isn't scheduled
 abbrev pub schedule_kind : Limits → Scene → Sight → ℕ → Node → NodeKind → Option (List Act)
-schedule_kind limits scene s i node Simple = one (schedule_simple limits s i node (task_def_named node.name scene.task_defs))
+schedule_kind limits scene s i node Simple = one (schedule_simple limits scene s i node (task_def_named node.name scene.task_defs))
 schedule_kind limits scene s i node kind = None
 
 -- the node at the end of a list
@@ -102,9 +116,16 @@ abbrev pub output_of : Option Seen → Doc
 output_of None = empty_table
 output_of (Some a) = a.output
 
--- the output of a flow that completes: that of its last node
-abbrev pub flow_output : Sight → Doc
-flow_output s = option_map_or (λ (n : Node). output_of (last_of s.attempts n.index 0)) (last_node s.def.nodes) empty_table
+-- the output of the flow's last node
+abbrev pub last_output : Sight → Doc
+last_output s = option_map_or (λ (n : Node). output_of (last_of s.attempts n.index 0)) (last_node s.def.nodes) empty_table
+
+abbrev pub has_keys : Doc → Bool
+has_keys d = option_map_or (λ es. nat_lt 0 (length es)) (as_table d) false
+
+-- the output of a flow that completes: what its definition says, or else that of its last node
+abbrev pub flow_output : Scene → Sight → Doc
+flow_output scene s = if has_keys s.def.output then filled_in scene s s.def.output else last_output s
 
 abbrev pub complete : Limits → Doc → Act
 complete limits output =
@@ -113,7 +134,7 @@ complete limits output =
 -- the next step is taken, where its rule is built
 abbrev pub take_step : Limits → Scene → Sight → Next → Option (List Act)
 take_step limits scene s (Schedule index i) = option_and_then (λ (n : Node). schedule_kind limits scene s i n n.kind) (node_at s.def.nodes index)
-take_step limits scene s Done = one (complete limits (flow_output s))
+take_step limits scene s Done = one (complete limits (flow_output scene s))
 take_step limits scene s step = None
 
 -- the first rule that applies to a flow, by what it wants done

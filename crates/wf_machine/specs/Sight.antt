@@ -1,6 +1,7 @@
--- What the rules see of a flow: no number of an attempt, and no moment.
+-- What the rules see of a flow: its own number, but none of an attempt, and no moment.
 use Rattle.std.specs.Prelude.{ℕ, Bool, List, map}
 use Rattle.wf_doc.specs.declared.doc.Doc.{Doc}
+use Rattle.wf_names.specs.declared.ids.FlowNo.{FlowNo}
 use Rattle.wf_names.specs.declared.statuses.TaskStatus.{TaskStatus}
 use Rattle.wf_names.specs.declared.statuses.FlowStatus.{FlowStatus}
 use Rattle.wf_machine.specs.declared.definition.FlowDef.{FlowDef}
@@ -12,6 +13,7 @@ pub record Seen : Type 0 where
   pub node : ℕ
   pub iteration : ℕ
   pub status : TaskStatus
+  pub input : Doc
   pub output : Doc
   pub turn : ℕ
   pub superseded : Bool
@@ -22,6 +24,7 @@ seen a =
       node = a.node;
       iteration = a.iteration;
       status = a.status;
+      input = a.input;
       output = a.output;
       turn = a.turn;
       superseded = a.superseded;
@@ -29,17 +32,32 @@ seen a =
 
 -- what they see of a flow: its attempts stand in their order, so each is known by its place
 pub record Sight : Type 0 where
-  pub status : FlowStatus
+  pub number : FlowNo
   pub def : FlowDef
+  pub input : Doc
+  pub variables : Doc
+  pub status : FlowStatus
+  pub correlation : List ℕ
   pub attempts : List Seen
 
 unfoldable pub sight : Flow → Sight
-sight flow = record { status = flow.status; def = flow.def; attempts = map seen flow.attempts }
+sight flow =
+    record {
+      number = flow.number;
+      def = flow.def;
+      input = flow.input;
+      variables = flow.variables;
+      status = flow.status;
+      correlation = flow.correlation;
+      attempts = map seen flow.attempts;
+    }
 
 -- what they read beside the flow
 pub record Scene : Type 0 where
+  -- that of the store
+  pub mark : ℕ
   pub task_defs : List TaskDef
 
 -- what stands beside a flow in the state
 abbrev pub scene_in : State → Scene
-scene_in s = record { task_defs = s.task_defs }
+scene_in s = record { mark = s.mark; task_defs = s.task_defs }

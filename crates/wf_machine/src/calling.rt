@@ -1,6 +1,6 @@
 //! Calls of the machine, replies to them, and the entries of its history.
 
-use crate::definition::{FlowDef, TaskDefs};
+use crate::definition::{FlowDef, FlowDefs, TaskDef, TaskDefs};
 use wf_doc::{Doc, Text};
 use wf_names::{FlowNo, IdKind, Refusal, TaskNo, TaskStatus};
 
@@ -22,8 +22,24 @@ pub struct TaskResult {
 pub enum Call {
     /// Registers tasks, each in place of one of its name.
     PutTaskDefs(TaskDefs),
+    /// Registers a task in place of the one of its name, which has to be there.
+    UpdateTaskDef(TaskDef),
+    /// Reads all tasks, by name.
+    TaskDefs,
+    /// Reads the task of that name.
+    TaskDefNamed(Text),
+    /// Forgets the task of that name.
+    DropTaskDef(Text),
     /// Registers a workflow under its name and version.
     AddFlowDef(FlowDef),
+    /// Registers workflows, each in place of one of its name and version.
+    PutFlowDefs(FlowDefs),
+    /// Reads all workflows, by name and then by version.
+    FlowDefs,
+    /// Reads a workflow: without a version, the greatest that is registered.
+    FlowDefNamed(Text, Option<u32>),
+    /// Forgets the workflow of that name and version.
+    DropFlowDef(Text, u32),
     /// Starts a workflow: without a version, the greatest that is registered.
     Start {
         name: Text,
@@ -33,6 +49,8 @@ pub enum Call {
     },
     /// Reads a flow, and its attempts where that is asked for.
     GetFlow(FlowNo, bool),
+    /// Reads the ids of the running flows of a workflow, of all its versions or of one.
+    Running(Text, Option<u32>),
     /// Hands out an attempt at the tasks of that name, to that worker.
     Poll(Text, Text),
     /// Reads an attempt.

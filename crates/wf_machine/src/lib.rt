@@ -6,9 +6,9 @@
 
 mod acting;
 mod calling;
+mod cases;
 mod copying;
 mod definition;
-mod faulting;
 pub mod laws;
 mod no_memory;
 mod sight;
@@ -20,7 +20,6 @@ pub use calling::{Call, Entry, Reply, TaskResult};
 pub use definition::{
     Branch, Case, Cases, Count, FlowDef, FlowDefs, Node, NodeKind, Nodes, TaskDef, TaskDefs,
 };
-pub use faulting::HttpFault;
 pub use no_memory::NoMemory;
 pub use sight::{ChildState, HandList, View};
 pub use timed::{Cause, Clocked, RetryLogic, TaskPolicy, Timing};

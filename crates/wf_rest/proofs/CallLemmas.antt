@@ -1,94 +1,145 @@
--- The calls of requests: each is proper, and there is none where the moment is bad.
-use Rattle.std.proofs.Common.{◌≡◌, ℕ, Bool, true, false, Option, Some, None, List, [], map, refl, subst, arith}
-use Rattle.std.specs.Prelude.{◌&&◌, ◌||◌, codes, if◌then◌else◌, option_and_then, option_map}
+-- The calls of requests are proper.
+use Rattle.std.proofs.Common.{◌≡◌, ℕ, Bool, true, false, ◌≤◌, Option, Some, None, List, [], ◌∷◌, map, refl, subst, arith, Result, Ok, Err, nat_le}
+use Rattle.std.specs.Prelude.{codes, if◌then◌else◌, option_and_then, unwrap_or}
 use Rattle.std.specs.List.{list_all}
+use Rattle.std.proofs.lemmas.Bool.{leb-true}
 use Rattle.wf_doc.specs.declared.doc.Doc.{Doc}
-use Rattle.wf_doc.specs.declared.fields.Entry.{Entry}
-use Rattle.wf_doc.specs.Doc.{as_list, as_table}
 use Rattle.wf_wire.specs.Request.{Request}
 use Rattle.wf_wire.specs.declared.limits.Limits.{Limits}
 use Rattle.wf_machine.specs.declared.calling.Call.{Call}
-use Rattle.wf_machine.specs.declared.calling.Call.TheVariants.{PutTaskDefs, Start, GetFlow, Poll, GetTask}
-use Rattle.wf_doc.specs.declared.doc.Doc.TheVariants.{Table}
-use Rattle.wf_names.specs.declared.ids.IdKind.TheVariants as kind
 use Rattle.wf_machine.specs.Calls.{IsProper}
-use Rattle.wf_machine.specs.Moments.{has_bad_moment}
-use Rattle.wf_machine.specs.Text.{same_text}
-use Rattle.wf_machine.specs.Requests as spec
+use Rattle.wf_fields.specs.Fields.{given, as_whole, as_count, count}
+use Rattle.wf_names.specs.declared.statuses.TaskStatus.{TaskStatus}
+use Rattle.wf_names.specs.declared.statuses.TaskStatus.TheVariants.{Scheduled, InProgress, Completed, CompletedWithErrors, Skipped, Failed, FailedWithTerminalError, TimedOut, Canceled}
+use Rattle.wf_machine.specs.declared.calling.Call.TheVariants as call
+use Rattle.wf_machine.specs.declared.definition.FlowDef.{FlowDef}
+use Rattle.wf_defs.specs.declared.faults.DefFault.{DefFault}
+use Rattle.wf_defs.specs.FlowRules.{flow_rule}
+use Rattle.wf_defs.specs.FlowReading.{flow_definition}
+use Rattle.wf_defs.specs.Several.{first_fault_in}
+use Rattle.wf_routes.specs.declared.table.Route.{Route}
+use Rattle.wf_routes.specs.declared.table.Route.TheVariants as route
+use Rattle.wf_routes.specs.Queries.{QueryPair}
+use Rattle.wf_rest.specs.declared.faulting.HttpFault.{HttpFault}
+use Rattle.wf_rest.specs.Bodies as body
+use Rattle.wf_rest.specs.Bodies.{Asked, then_read}
+use Rattle.wf_rest.specs.Requests as spec
 
 -- no call, or a proper one
-abbrev Fits : Option Call → Type 0
-Fits None = Unit {0}
-Fits (Some call) = IsProper call
+abbrev Fits : Asked → Type 0
+Fits (Err fault) = Unit {0}
+Fits (Ok call) = IsProper call
 
-either_fits : (b : Bool) (x y : Option Call) → Fits x → Fits y → Fits (if b then x else y)
+then_fits : {T : Type 0} (r : Result T HttpFault) (f : T → Asked) → ((v : T) → Fits (f v)) → Fits (then_read r f)
+then_fits (Err fault) f h = tt {0}
+then_fits (Ok v) f h = h v
+
+either_fits : (b : Bool) (x y : Asked) → Fits x → Fits y → Fits (if b then x else y)
 either_fits true x y f g = f
 either_fits false x y f g = g
 
-then_fits : {T : Type 0} (f : T → Option Call) (x : Option T) → ((a : T) → Fits (f a)) → Fits (option_and_then f x)
-then_fits f None h = tt {0}
-then_fits f (Some a) h = h a
+formed_fits : (b : Bool) (c : Call) → IsProper c → Fits (body.if_formed b c)
+formed_fits true c proper = proper
+formed_fits false c proper = tt {0}
 
-or_fits : (x y : Option Call) → Fits x → Fits y → Fits (spec.or_call x y)
-or_fits None y f g = g
-or_fits (Some call) y f g = f
+unbroken_fits : (o : Option DefFault) (c : Call) → IsProper c → Fits (body.unless_broken o c)
+unbroken_fits None c proper = proper
+unbroken_fits (Some broken) c proper = tt {0}
 
-input_fits : (name : List ℕ) (o : Option (List (Entry Doc))) → Fits (option_map (λ es. Start name None (Table es) []) o)
-input_fits name None = tt {0}
-input_fits name (Some es) = tt {0}
+built_fits : (defs : List FlowDef) (c : Call) → IsProper c → Fits (body.if_built defs c)
+built_fits defs c proper = either_fits (list_all body.is_built defs) (Ok c) _ proper (tt {0})
 
-registration_fits : (limits : Limits) (d : Doc) → Fits (spec.registration_of limits d)
-registration_fits limits d = either_fits (spec.is_plain_definition limits.nodes d) _ None (tt {0}) (tt {0})
+flow_fits : (most : ℕ) (d : Doc) → Fits (body.flow_def_of most d)
+flow_fits most d =
+    then_fits (body.unless_broken (flow_rule most d) (flow_definition most d)) (λ (def : FlowDef). body.if_built (def ∷ []) (call.AddFlowDef def))
+    (λ (def : FlowDef). built_fits (def ∷ []) (call.AddFlowDef def) (tt {0}))
 
-tasks_fit : (d : Doc) → Fits (spec.tasks_registered d)
-tasks_fit d = then_fits spec.tasks_with (as_list d) (λ ds. either_fits (list_all spec.is_plain_task_def ds) (Some (PutTaskDefs (map spec.plain_task_def ds))) None (tt {0}) (tt {0}))
+flows_fit : (most : ℕ) (ds : List Doc) → Fits (body.flow_defs_of most ds)
+flows_fit most ds =
+    then_fits (body.unless_broken (first_fault_in (flow_rule most) 0 ds) (map (flow_definition most) ds)) (λ (defs : List FlowDef). body.if_built defs (call.PutFlowDefs defs))
+    (λ (defs : List FlowDef). built_fits defs (call.PutFlowDefs defs) (tt {0}))
 
-update_fits : (mark : ℕ) (d : Doc) → Fits (spec.update_with mark d)
-update_fits mark d = either_fits (spec.is_completion d) _ None (refl, omega arith) (tt {0})
+-- ---- the delay of an update
 
-named_fits : (limits : Limits) (m : Request) (name : List ℕ) → Fits (spec.start_named limits m name)
-named_fits limits m name =
-    either_fits (spec.is_plain_word name) _ None (then_fits (spec.start_with name) (spec.document_within limits.depth m.body) (λ d. input_fits name (as_table d))) (tt {0})
+bounded : (b : Bool) (n : ℕ) → (b ≡ true → n ≤ 2147483647) → unwrap_or (if b then Some n else None) 0 ≤ 2147483647
+bounded true n fits = fits refl
+bounded false n fits = omega arith
 
-post_fits : (limits : Limits) (mark : ℕ) (m : Request) → Fits (spec.post_call limits mark m)
-unfolding spec.post_call
-post_fits limits mark m =
-    either_fits (same_text m.target (codes "/api/metadata/workflow")) _ _ (then_fits (spec.registration_of limits) (spec.document_within limits.depth m.body) (registration_fits limits))
-    (either_fits (same_text m.target (codes "/api/metadata/taskdefs")) _ _ (then_fits spec.tasks_registered (spec.document_within limits.depth m.body) tasks_fit)
-    (either_fits (same_text m.target (codes "/api/tasks")) _ _ (then_fits (spec.update_with mark) (spec.document_within limits.depth m.body) (update_fits mark))
-    (then_fits (spec.start_named limits m) (spec.behind (codes "/api/workflow/") m.target) (named_fits limits m))))
+whole_bounded : (o : Option ℕ) → unwrap_or (option_and_then count o) 0 ≤ 2147483647
+whole_bounded None = omega arith
+whole_bounded (Some n) = bounded (nat_le n 2147483647) n (leb-true n 2147483647)
 
-poll_with_fits : (name worker : List ℕ) → Fits (spec.poll_with name worker)
-poll_with_fits name worker = either_fits (spec.is_plain_word name && spec.is_plain_word worker) (Some (Poll name worker)) None (tt {0}) (tt {0})
+callback_bounded : (o : Option Doc) → unwrap_or (option_and_then as_count o) 0 ≤ 2147483647
+callback_bounded None = omega arith
+callback_bounded (Some v) = whole_bounded (as_whole v)
 
-poll_fits : (path : List ℕ) → Fits (spec.poll_of path)
-poll_fits path = either_fits (spec.is_plain_word path) (Some (Poll path [])) _ (tt {0}) (then_fits (spec.poll_with (spec.before_query path)) _ (poll_with_fits (spec.before_query path)))
+update_fits : (mark : ℕ) (d : Doc) (o : Option TaskStatus) → Fits (body.update_with mark d o)
+update_fits mark d None = tt {0}
+update_fits mark d (Some Scheduled) = tt {0}
+update_fits mark d (Some InProgress) = tt {0}
+update_fits mark d (Some Completed) = (refl, callback_bounded (given (codes "callbackAfterSeconds") d))
+update_fits mark d (Some CompletedWithErrors) = tt {0}
+update_fits mark d (Some Skipped) = tt {0}
+update_fits mark d (Some Failed) = tt {0}
+update_fits mark d (Some FailedWithTerminalError) = tt {0}
+update_fits mark d (Some TimedOut) = tt {0}
+update_fits mark d (Some Canceled) = tt {0}
 
-task_fits : (mark : ℕ) (text : List ℕ) → Fits (spec.task_read mark text)
-task_fits mark text = either_fits (spec.is_id_word text) (Some (GetTask (record { 0 = spec.id_number mark kind.Task text }))) None (tt {0}) (tt {0})
+-- ---- routes
 
-flow_fits : (mark : ℕ) (text : List ℕ) → Fits (spec.flow_read mark text)
-flow_fits mark text = either_fits (spec.is_id_word text) (Some (GetFlow (record { 0 = spec.id_number mark kind.Flow text }) true)) None (tt {0}) (tt {0})
+module _ (limits : Limits) (mark : ℕ) (path : List ℕ) (query : List QueryPair) (bytes : List ℕ) where
+  of_document : (f : Doc → Asked) → ((d : Doc) → Fits (f d)) → Fits (then_read (spec.document_of limits bytes) f)
+  of_document f h = then_fits (spec.document_of limits bytes) f h
 
-get_fits : (mark : ℕ) (m : Request) → Fits (spec.get_call mark m)
-unfolding spec.get_call
-get_fits mark m =
-    or_fits _ _ (then_fits spec.poll_of (spec.behind (codes "/api/tasks/poll/") m.target) poll_fits)
-    (or_fits _ _ (then_fits (spec.task_read mark) (spec.behind (codes "/api/tasks/") m.target) (task_fits mark))
-    (then_fits (spec.flow_read mark) (spec.behind (codes "/api/workflow/") m.target) (flow_fits mark)))
+  of_named : (n : ℕ) (f : List ℕ → Asked) → ((text : List ℕ) → Fits (f text)) → Fits (then_read (spec.parameter n path) f)
+  of_named n f h = then_fits (spec.parameter n path) f h
 
-call_fits : (limits : Limits) (mark : ℕ) (m : Request) → Fits (spec.call_of limits mark m)
-unfolding spec.call_of
-call_fits limits mark m =
-    either_fits (has_bad_moment m || spec.has_field (codes "content-encoding") m) None _ (tt {0})
-    (either_fits (spec.is_method (codes "POST") m) _ _ (post_fits limits mark m)
-    (either_fits (spec.is_method (codes "GET") m) _ None (get_fits mark m) (tt {0})))
+  start_fits : Fits (spec.start_named limits path query bytes)
+  start_fits =
+      of_named 3 _ (λ name. then_fits (spec.version_query query) _ (λ version.
+      then_fits (spec.text_query (codes "correlationId") query) _ (λ correlation. then_fits (spec.input_of limits bytes) _ (λ input. tt {0}))))
+
+  poll_fits : Fits (spec.poll path query)
+  poll_fits =
+      of_named 4 _ (λ name. then_fits (spec.text_query (codes "workerid") query) _ (λ worker. then_fits (spec.domain_query query) _ (λ domain. tt {0})))
+
+  route_fits : (r : Route) → Fits (spec.by_route limits mark path query bytes r)
+  unfolding spec.by_route
+  route_fits route.PutTaskDefs = of_document _ (λ d. then_fits (body.items_of_body d) _ (λ ds. unbroken_fits _ (call.PutTaskDefs _) (tt {0})))
+  route_fits route.UpdateTaskDef = of_document _ (λ d. unbroken_fits _ (call.UpdateTaskDef _) (tt {0}))
+  route_fits route.TaskDefs = tt {0}
+  route_fits route.TaskDefNamed = of_named 4 _ (λ name. tt {0})
+  route_fits route.DropTaskDef = of_named 4 _ (λ name. tt {0})
+  route_fits route.AddFlowDef = of_document _ (flow_fits limits.nodes)
+  route_fits route.PutFlowDefs = of_document _ (λ d. then_fits (body.items_of_body d) _ (flows_fit limits.nodes))
+  route_fits route.FlowDefs = tt {0}
+  route_fits route.FlowDefNamed = of_named 4 _ (λ name. then_fits (spec.version_query query) _ (λ version. tt {0}))
+  route_fits route.DropFlowDef = of_named 4 _ (λ name. then_fits (spec.version_parameter 5 path) _ (λ version. tt {0}))
+  route_fits route.Start = of_document _ (λ d. formed_fits (body.is_start d) _ (tt {0}))
+  route_fits route.StartNamed = start_fits
+  route_fits route.GetFlow = of_named 3 _ (λ text. then_fits (spec.tasks_query query) _ (λ tasks. tt {0}))
+  route_fits route.Running = of_named 4 _ (λ name. then_fits (spec.version_query query) _ (λ version. tt {0}))
+  route_fits route.Poll = poll_fits
+  route_fits route.GetTask = of_named 3 _ (λ text. tt {0})
+  route_fits route.Update = of_document _ (λ d. then_fits (body.if_formed (body.is_update d) d) _ (λ (d' : Doc). update_fits mark d' _))
+  route_fits route.Terminate = tt {0}
+  route_fits route.Remove = tt {0}
+  route_fits route.Pause = tt {0}
+  route_fits route.Resume = tt {0}
+  route_fits route.Restart = tt {0}
+  route_fits route.Retry = tt {0}
+  route_fits route.Rerun = tt {0}
+  route_fits route.Decide = tt {0}
+  route_fits route.Skip = tt {0}
+  route_fits route.PollBatch = tt {0}
+  route_fits route.Sweep = tt {0}
+  route_fits route.Shutdown = tt {0}
+
+request_fits : (limits : Limits) (mark : ℕ) (m : Request) → Fits (spec.request_call limits mark m)
+unfolding spec.request_call
+request_fits limits mark m =
+    either_fits (spec.is_encoded m) _ _ (tt {0}) (then_fits (spec.route_of (spec.path_part m.target) m.method) _ (route_fits limits mark _ _ m.body))
 
 -- the call that a request is
-pub call_is_proper : (limits : Limits) (mark : ℕ) (m : Request) (call : Call) → spec.call_of limits mark m ≡ Some call → IsProper call
-call_is_proper limits mark m call e = subst Fits e (call_fits limits mark m)
-
--- a request with a bad moment is no call
-pub bad_moment_is_no_call : (limits : Limits) (mark : ℕ) (m : Request) → has_bad_moment m ≡ true → spec.call_of limits mark m ≡ None
-unfolding spec.call_of
-bad_moment_is_no_call limits mark m bad = rw bad refl
+pub call_is_proper : (limits : Limits) (mark : ℕ) (m : Request) (c : Call) → spec.request_call limits mark m ≡ Ok c → IsProper c
+call_is_proper limits mark m c e = subst Fits e (request_fits limits mark m)

@@ -1,4 +1,2 @@
-pub mod WordLemmas
-pub mod PathLemmas
-pub mod KeyLemmas
 pub mod CallLemmas
+pub mod ServingLemmas

@@ -1,135 +1,95 @@
-//! Definitions of plain tasks.
+//! Definitions that requests register or change.
 
-ghost use Rattle.std.specs.Prelude.{◌≡◌, ◌<◌, ◌^◌, IfOk, length, map};
+ghost use Rattle.std.specs.Prelude.{◌≡◌, ◌≢◌, Err, IfErr, IfOk, Ok};
 ghost use Rattle.std.specs.List.{list_all};
-ghost use Rattle.wf_machine.specs.Requests as spec;
+ghost use Rattle.wf_rest.specs.Bodies as spec;
 
-use crate::documents::{empty_table, has_keys, items_at, text_at};
-use crate::words::{is_plain_reference, is_plain_word};
+use crate::faulting::HttpFault;
 use std::alloc::Global;
-use wf_doc::{Doc, Items, NoMemory, Text};
-use wf_machine::{FlowDef, Node, NodeKind, Nodes};
+use wf_defs::{DefFault, read_flowdef, read_flowdefs, read_taskdef, read_taskdefs};
+use wf_doc::Doc;
+use wf_machine::{Call, FlowDef, Node, NodeKind};
+use wf_wire::Limits;
 
-/// The document is a table of a name and of tasks, at most so many, each a table of a name and a reference. No two have
-/// the same reference.
-pub fn is_plain_definition(doc: &Doc, most: u32) -> bool
-    ensures { result ≡ spec.is_plain_definition most doc.now }
+/// Tasks that are registered, each in place of one of its name.
+pub fn task_defs_of(alloc: Global, docs: &[Doc]) -> Result<Call, HttpFault>
+    ensures ok { IfOk result (λ call. spec.task_defs_of docs.now ≡ Ok call) }
+    ensures err { IfErr result (λ fault. fault ≢ HttpFault.NoMemory → spec.task_defs_of docs.now ≡ Err fault) }
 {
-    has_keys(doc, &["name", "tasks"])
-        && is_plain_word(text_at(doc, "name"))
-        && are_plain_tasks(items_at(doc, "tasks"), most)
-}
-
-fn are_plain_tasks(tasks: &[Doc], most: u32) -> bool
-    ensures { result ≡ spec.are_plain_tasks most tasks.now }
-{
-    !tasks.is_empty()
-        && tasks.len() <= most as usize
-        && are_each_plain(tasks)
-        && are_different(tasks)
-}
-
-fn are_each_plain(tasks: &[Doc]) -> bool
-    ensures { result ≡ list_all spec.is_plain_task tasks.now }
-{
-    tasks.iter().all(is_plain_task)
-}
-
-fn is_plain_task(task: &Doc) -> bool
-    ensures { result ≡ spec.is_plain_task task.now }
-{
-    has_keys(task, &["name", "taskReferenceName"])
-        && is_plain_word(text_at(task, "name"))
-        && is_plain_reference(reference(task))
-}
-
-fn reference(task: &Doc) -> &str
-    ensures { result.now ≡ spec.task_reference task.now }
-{
-    text_at(task, "taskReferenceName")
-}
-
-/// No two of the tasks have one reference.
-fn are_different(tasks: &[Doc]) -> bool
-    ensures { result ≡ spec.are_different (map spec.task_reference tasks.now) }
-{
-    for i in 0..tasks.len() {
-        if is_among(reference(&tasks[i]), &tasks[i + 1..]) {
-            return false;
-        }
+    match read_taskdefs(alloc, docs) {
+        Ok(defs) => Ok(Call::PutTaskDefs(defs)),
+        Err(fault) => Err(definition_fault(fault)),
     }
-    true
 }
 
-fn is_among(word: &str, tasks: &[Doc]) -> bool
-    ensures { result ≡ spec.is_among word.now (map spec.task_reference tasks.now) }
+/// A task that is registered in place of the one of its name.
+pub fn task_def_of(alloc: Global, doc: Doc) -> Result<Call, HttpFault>
+    ensures ok { IfOk result (λ call. spec.task_def_of doc ≡ Ok call) }
+    ensures err { IfErr result (λ fault. fault ≢ HttpFault.NoMemory → spec.task_def_of doc ≡ Err fault) }
 {
-    for task in tasks {
-        if word == reference(task) {
-            return true;
-        }
+    match read_taskdef(alloc, doc) {
+        Ok(def) => Ok(Call::UpdateTaskDef(def)),
+        Err(fault) => Err(definition_fault(fault)),
     }
-    false
 }
 
-/// The definition that a document of plain tasks is.
-#[tactic(auto, unfolding(wf_machine::specs::Requests::plain_definition))]
-pub fn read_definition(alloc: Global, doc: Doc) -> Result<FlowDef, NoMemory>
-    requires { length (spec.tasks_of doc) < 2 ^ 32 }
-    ensures { IfOk result (λ def. def ≡ spec.plain_definition doc) }
+/// A workflow that is registered under its name and version.
+pub fn flow_def_of(alloc: Global, doc: Doc, limits: &Limits) -> Result<Call, HttpFault>
+    ensures ok { IfOk result (λ call. spec.flow_def_of limits.now.nodes doc ≡ Ok call) }
+    ensures err { IfErr result (λ fault. fault ≢ HttpFault.NoMemory → spec.flow_def_of limits.now.nodes doc ≡ Err fault) }
 {
-    let name = Text::new(alloc, text_at(&doc, "name"))?;
-    let nodes = read_nodes(alloc, items_at(&doc, "tasks"))?;
-    let document = stored_definition(alloc, doc)?;
-    Ok(FlowDef {
-        name,
-        version: 1,
-        timeout: 0,
-        alert_only: false,
-        restartable: true,
-        template: empty_table(alloc),
-        output: empty_table(alloc),
-        nodes,
-        document,
-    })
-}
-
-fn read_nodes(alloc: Global, tasks: &[Doc]) -> Result<Nodes, NoMemory>
-    requires { length tasks.now < 2 ^ 32 }
-    ensures { IfOk result (λ nodes. nodes ≡ spec.plain_nodes 0 tasks.now) }
-{
-    let mut nodes = Items::new(alloc);
-    let mut index = 0;
-    for task in tasks {
-        nodes.push(read_node(alloc, index, task)?)?;
-        index += 1;
+    match read_flowdef(alloc, doc, limits) {
+        Ok(def) => if is_built(&def) {
+            Ok(Call::AddFlowDef(def))
+        } else {
+            Err(HttpFault::NotBuilt)
+        },
+        Err(fault) => Err(definition_fault(fault)),
     }
-    Ok(nodes)
 }
 
-fn read_node(alloc: Global, index: u32, task: &Doc) -> Result<Node, NoMemory>
-    ensures { IfOk result (λ node. node ≡ spec.plain_node index task.now) }
+/// Workflows that are registered, each in place of one of its name and version.
+pub fn flow_defs_of(alloc: Global, docs: &[Doc], limits: &Limits) -> Result<Call, HttpFault>
+    ensures ok { IfOk result (λ call. spec.flow_defs_of limits.now.nodes docs.now ≡ Ok call) }
+    ensures err { IfErr result (λ fault. fault ≢ HttpFault.NoMemory → spec.flow_defs_of limits.now.nodes docs.now ≡ Err fault) }
 {
-    Ok(Node {
-        index,
-        name: Text::new(alloc, text_at(task, "name"))?,
-        reference: Text::new(alloc, reference(task))?,
-        optional: false,
-        start_delay: 0,
-        input: empty_table(alloc),
-        kind: NodeKind::Simple,
-    })
+    match read_flowdefs(alloc, docs, limits) {
+        Ok(defs) => if are_built(defs.as_slice()) {
+            Ok(Call::PutFlowDefs(defs))
+        } else {
+            Err(HttpFault::NotBuilt)
+        },
+        Err(fault) => Err(definition_fault(fault)),
+    }
 }
 
-/// The document with its version.
-fn stored_definition(alloc: Global, doc: Doc) -> Result<Doc, NoMemory>
-    ensures { IfOk result (λ made. made ≡ spec.stored_definition doc) }
+fn definition_fault(fault: DefFault) -> HttpFault
+    ensures { result ≡ spec.definition_fault fault }
 {
-    match doc {
-        Doc::Table(mut fields) => {
-            fields.set(Text::new(alloc, "version")?, Doc::Int(1))?;
-            Ok(Doc::Table(fields))
-        }
-        other => Ok(other),
+    match fault {
+        DefFault::Rule { rule, place } => HttpFault::BadDefinition(rule, place),
+        DefFault::NoMemory => HttpFault::NoMemory,
+    }
+}
+
+fn are_built(defs: &[FlowDef]) -> bool
+    ensures { result ≡ list_all spec.is_built defs.now }
+{
+    defs.iter().all(is_built)
+}
+
+/// All of its nodes are tasks, which alone can be run today.
+fn is_built(def: &FlowDef) -> bool
+    ensures { result ≡ spec.is_built def.now }
+{
+    def.nodes.as_slice().iter().all(is_task_node)
+}
+
+fn is_task_node(node: &Node) -> bool
+    ensures { result ≡ spec.is_task_node node.now }
+{
+    match node.kind {
+        NodeKind::Simple => true,
+        _ => false,
     }
 }

@@ -1,13 +1,10 @@
 //! The moments that requests state.
 
-ghost use Rattle.std.specs.Prelude.{◌≡◌, ◌∷◌, ◌-◌, ◌^◌, [], IfOk, IfErr, IsTrue, min, true, false};
-ghost use Rattle.std.specs.List.{list_all};
-ghost use Rattle.std.specs.Char.{is_ascii_digit};
-ghost use Rattle.std.specs.Str.Parse.{digits_value};
-ghost use Rattle.wf_machine.specs.Moments as spec;
+ghost use Rattle.std.specs.Prelude.{◌≡◌, ◌∷◌, [], IfOk, IfErr, true, false};
+ghost use Rattle.wf_rest.specs.Moments as spec;
 
-use crate::words::are_digits;
-use wf_machine::HttpFault;
+use crate::faulting::HttpFault;
+use crate::numbers::{are_digits, capped_value};
 use wf_wire::{FieldLook, Message};
 
 /// The last moment that there is, in milliseconds.
@@ -42,18 +39,4 @@ fn read_moment(value: &[u8]) -> Option<u64>
     } else {
         None
     }
-}
-
-/// The value of the digits, at most the type's last value.
-fn capped_value(digits: &[u8]) -> u64
-    requires { IsTrue (list_all is_ascii_digit digits.now) }
-    ensures { result ≡ min (digits_value 10 digits.now) (2 ^ 64 - 1) }
-{
-    let mut value = 0u64;
-    for digit in digits {
-        value = value
-            .saturating_mul(10)
-            .saturating_add((*digit - b'0') as u64);
-    }
-    value
 }

@@ -1,77 +1,73 @@
 //! Requests as calls of the machine.
 
-ghost use Rattle.std.specs.Prelude.{◌≡◌, ◌≢◌, IfOk, IfErr, None, Some, codes, false, option_and_then};
+ghost use Rattle.std.specs.Prelude.{◌≡◌, ◌≢◌, Err, IfErr, IfOk, Ok};
 ghost use Rattle.wf_machine.specs.Calls.{IsProper};
-ghost use Rattle.wf_machine.specs.Moments.{has_bad_moment};
-ghost use Rattle.wf_machine.specs.Requests as spec;
+ghost use Rattle.wf_routes.specs.Paths.{path_of};
+ghost use Rattle.wf_routes.specs.Queries.{query_pairs};
+ghost use Rattle.wf_rest.specs.Requests as spec;
 
-use crate::ids::{read_flow, read_task};
-use crate::moments::moment_of;
-use crate::paths::{FLOW_DEFS, TASK_DEFS, UPDATES};
-use crate::polls::read_poll;
-use crate::registrations::{read_flow_def, read_task_defs};
-use crate::starts::read_start;
-use crate::updates::read_update;
+use crate::faulting::HttpFault;
+use crate::routed::by_route;
 use std::alloc::Global;
-use wf_doc::NoMemory;
-use wf_machine::{Call, HttpFault};
+use wf_doc::{NoMemory, Text};
+use wf_machine::Call;
+use wf_routes::table::Route;
+use wf_routes::{Query, Routes, Unrouted, split_target};
 use wf_wire::{FieldLook, Limits, Message};
 
-/// The call that a request is in the store with that mark.
+/// The call that a request is in the store with that mark, or the first reason why it is none.
 ///
-/// It is BadMoment where the field Moment-Ms is repeated or isn't a moment, whatever else the request says, and NotBuilt
-/// where it is no call otherwise. NoMemory comes only where the moment isn't bad, and means that memory was wanting while
-/// the request was read. A text that isn't an id of this store and of the kind that its place asks for names the
-/// number 0.
-#[tactic(auto, using(crate::proofs::CallLemmas::bad_moment_is_no_call, crate::proofs::CallLemmas::call_is_proper))]
+/// The reasons are tried in this order: ContentEncoding, NoRoute, BadMethod, NotBuilt of a route, BadPath, BadQuery, the
+/// faults of the body's document, BadBody, NotBuilt of an update, BadDefinition, NotBuilt of a definition. A text that isn't
+/// an id of this store and of the kind that its place asks for names the number 0. NoMemory means that memory was wanting
+/// while the request was read.
+#[tactic(auto, using(crate::proofs::CallLemmas::call_is_proper))]
 pub fn read_call(
     alloc: Global,
     message: &Message,
     mark: u32,
     limits: &Limits,
+    routes: &Routes,
 ) -> Result<Call, HttpFault>
-    ensures ok { IfOk result (λ call. spec.call_of limits.now mark message.now ≡ Some call) }
+    ensures ok { IfOk result (λ call. spec.request_call limits.now mark message.now ≡ Ok call) }
     ensures proper { IfOk result IsProper }
     ensures err { IfErr result (λ fault. fault ≢ HttpFault.NoMemory
-        → (fault ≡ spec.fault_of message.now) × (spec.call_of limits.now mark message.now ≡ None)) }
-    ensures memory { IfErr result (λ fault. fault ≡ HttpFault.NoMemory → has_bad_moment message.now ≡ false) }
+        → spec.request_call limits.now mark message.now ≡ Err fault) }
 {
-    moment_of(message)?;
-    match read_built(alloc, message, mark, limits) {
-        Ok(Some(call)) => Ok(call),
-        Ok(None) => Err(HttpFault::NotBuilt),
-        Err(NoMemory) => Err(HttpFault::NoMemory),
+    match read_request(alloc, message, mark, limits, routes) {
+        Ok(call) => Ok(call),
+        Err(fault) => Err(fault),
     }
 }
 
-/// The call of a request that has no bad moment.
-#[tactic(auto, unfolding(wf_machine::specs::Requests::call_of))]
-fn read_built(
+#[tactic(auto, unfolding(crate::specs::Requests::request_call))]
+fn read_request(
     alloc: Global,
     message: &Message,
     mark: u32,
     limits: &Limits,
-) -> Result<Option<Call>, NoMemory>
-    requires { has_bad_moment message.now ≡ false }
-    ensures { IfOk result (λ call. call ≡ spec.call_of limits.now mark message.now) }
+    routes: &Routes,
+) -> Result<Call, HttpFault>
+    ensures ok { IfOk result (λ call. spec.request_call limits.now mark message.now ≡ Ok call) }
+    ensures err { IfErr result (λ fault. fault ≢ HttpFault.NoMemory
+        → spec.request_call limits.now mark message.now ≡ Err fault) }
 {
-    if has_field(message, "content-encoding") {
-        Ok(None)
-    } else if message.method() == b"POST".as_slice() {
-        read_post(alloc, message, mark, limits)
-    } else if message.method() == b"GET".as_slice() {
-        read_get(alloc, message, mark)
-    } else {
-        Ok(None)
+    if is_encoded(message) {
+        return Err(HttpFault::ContentEncoding);
     }
+    let (path, query) = split_target(target_of(message));
+    let route = route_of(alloc, routes, path, message.method())?;
+    let query = read_query(alloc, query)?;
+    by_route(alloc, limits, mark, path, &query, message.body(), route)
 }
 
-fn has_field(message: &Message, name: &str) -> bool
-    ensures { result ≡ spec.has_field name.now message.now }
+/// The body is encoded: there is a Content-Encoding other than `identity`, in any case of its letters, or several.
+pub fn is_encoded(message: &Message) -> bool
+    ensures { result ≡ spec.is_encoded message.now }
 {
-    match message.field(name) {
+    match message.field("content-encoding") {
         FieldLook::Absent => false,
-        FieldLook::One(_) => true,
+        FieldLook::One(coding) => !coding.eq_ignore_ascii_case(b"identity"),
         FieldLook::Many => true,
     }
 }
@@ -86,44 +82,32 @@ fn target_of(message: &Message) -> &str
     }
 }
 
-#[tactic(auto, unfolding(wf_machine::specs::Requests::post_call))]
-fn read_post(
-    alloc: Global,
-    message: &Message,
-    mark: u32,
-    limits: &Limits,
-) -> Result<Option<Call>, NoMemory>
-    ensures { IfOk result (λ call. call ≡ spec.post_call limits.now mark message.now) }
+fn route_of(alloc: Global, routes: &Routes, path: &str, method: &[u8]) -> Result<Route, HttpFault>
+    ensures ok { IfOk result (λ route. spec.route_of path.now method.now ≡ Ok route) }
+    ensures err { IfErr result (λ fault. fault ≢ HttpFault.NoMemory → spec.route_of path.now method.now ≡ Err fault) }
 {
-    let target = target_of(message);
-    if target == FLOW_DEFS {
-        read_flow_def(alloc, message.body(), limits)
-    } else if target == TASK_DEFS {
-        read_task_defs(alloc, message.body(), limits)
-    } else if target == UPDATES {
-        read_update(alloc, message.body(), mark, limits)
-    } else {
-        read_start(alloc, message, target, limits)
+    match routes.route(path, method) {
+        Ok(route) => Ok(route),
+        Err(Unrouted::NoRoute) => Err(HttpFault::NoRoute),
+        Err(Unrouted::BadMethod) => Err(HttpFault::BadMethod(allowed(alloc, routes, path)?)),
     }
 }
 
-#[tactic(auto, unfolding(wf_machine::specs::Requests::get_call))]
-fn read_get(alloc: Global, message: &Message, mark: u32) -> Result<Option<Call>, NoMemory>
-    ensures { IfOk result (λ call. call ≡ spec.get_call mark message.now) }
+/// The methods that a path has.
+fn allowed(alloc: Global, routes: &Routes, path: &str) -> Result<Text, NoMemory>
+    ensures { IfOk result (λ methods. methods ≡ spec.allowed (path_of path.now)) }
 {
-    let target = target_of(message);
-    if let Some(call) = read_poll(alloc, target)? {
-        return Ok(Some(call));
+    match routes.allow(path) {
+        Some(methods) => Text::new(alloc, methods),
+        None => Text::new(alloc, ""),
     }
-    Ok(read_kept(mark, target))
 }
 
-fn read_kept(mark: u32, target: &str) -> Option<Call>
-    ensures { result ≡ spec.or_call (option_and_then (spec.task_read mark) (spec.behind (codes "/api/tasks/") target.now))
-        (option_and_then (spec.flow_read mark) (spec.behind (codes "/api/workflow/") target.now)) }
+fn read_query(alloc: Global, query: &str) -> Result<Query, NoMemory>
+    ensures { IfOk result (λ read. read ≡ query_pairs query.now) }
 {
-    match read_task(mark, target) {
-        Some(call) => Some(call),
-        None => read_flow(mark, target),
+    match Query::read(alloc, query) {
+        Ok(query) => Ok(query),
+        Err(_) => Err(NoMemory),
     }
 }

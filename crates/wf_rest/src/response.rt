@@ -1,16 +1,17 @@
 //! What a reply says, before it is framed.
 
 ghost use Rattle.std.specs.Prelude.{◌≡◌, ◌==◌, IfOk, length};
-ghost use Rattle.wf_machine.specs.Replies as spec;
+ghost use Rattle.wf_rest.specs.Responses as spec;
 
 use std::alloc::Global;
 use std::marker::Model;
 use wf_doc::{Doc, Fields, NoMemory, Text, print};
 
-/// A reply's status, its body and the body's media type.
+/// A reply's status, the methods that it allows where it says so, its body and the body's media type.
 #[derive(Drop)]
 pub struct Response {
     status: u16,
+    allow: Text,
     media: &'static str,
     body: Text,
 }
@@ -18,7 +19,7 @@ pub struct Response {
 impl Model for Response {
     ghost Value = { spec.Response };
 
-    ghost view = { λ r. record { status = r.status; media = r.media.now; body = r.body } };
+    ghost view = { λ r. record { status = r.status; allow = r.allow; media = r.media.now; body = r.body } };
 }
 
 impl Response {
@@ -28,6 +29,7 @@ impl Response {
     {
         Ok(Response {
             status,
+            allow: Text::new(alloc, "")?,
             media: "",
             body: Text::new(alloc, "")?,
         })
@@ -39,6 +41,7 @@ impl Response {
     {
         Ok(Response {
             status: 200,
+            allow: Text::new(alloc, "")?,
             media: "text/plain",
             body: Text::new(alloc, text)?,
         })
@@ -49,6 +52,7 @@ impl Response {
     {
         Ok(Response {
             status,
+            allow: Text::new(alloc, "")?,
             media: "application/json",
             body: print(alloc, doc)?,
         })
@@ -65,6 +69,24 @@ impl Response {
     {
         let doc = refusal_document(alloc, code, message, status)?;
         Response::json(alloc, status, &doc)
+    }
+
+    /// The same, with these methods in its field Allow; an empty list of them is no field.
+    pub fn allowing(self, allow: Text) -> Response
+        ensures { result ≡ spec.allowing allow self }
+    {
+        Response {
+            status: self.status,
+            allow,
+            media: self.media,
+            body: self.body,
+        }
+    }
+
+    pub fn allow(&self) -> &str
+        ensures { result.now ≡ self.now.allow }
+    {
+        self.allow.as_str()
     }
 
     pub fn status(&self) -> u16

@@ -1,85 +1,115 @@
 //! Updates: what workers tell of their tasks.
 
-ghost use Rattle.std.specs.Prelude.{◌≡◌, IfOk, codes, option_and_then, unwrap_or};
-ghost use Rattle.wf_doc.specs.declared.doc.Doc.TheVariants.{Null};
-ghost use Rattle.wf_doc.specs.Doc.{field};
-ghost use Rattle.wf_machine.specs.Requests as spec;
+ghost use Rattle.std.specs.Prelude.{◌≡◌, ◌≢◌, Err, IfErr, IfOk, Ok, Some, codes, option_and_then};
+ghost use Rattle.wf_doc.specs.Doc.{as_text};
+ghost use Rattle.wf_fields.specs.Fields.{given as given_in, is_given};
+ghost use Rattle.wf_rest.specs.Bodies as spec;
 
-use crate::documents::{has_keys, is_table_at, is_text_at, read_document, text_at};
-use crate::ids::id_number;
+use crate::faulting::HttpFault;
+use crate::ids::{flow_named, task_named};
+use crate::starts::is_table;
 use std::alloc::Global;
-use wf_doc::{Doc, NoMemory, Text, copy};
+use wf_doc::{Doc, NoMemory, Text};
+use wf_fields::{
+    Form, given, is_absent_or_formed, is_absent_or_number, is_formed, number_or, table_in, text_in,
+};
 use wf_machine::{Call, TaskResult};
-use wf_names::{FlowNo, IdKind, TaskNo, TaskStatus};
-use wf_wire::Limits;
+use wf_names::{FlowNo, TaskStatus};
 
-const FLOW_ID: &str = "workflowInstanceId";
-
-const OUTPUT: &str = "outputData";
-
-const STATUS: &str = "status";
-
-const TASK_ID: &str = "taskId";
-
-/// The update that tells that a task was completed, with its output.
-pub fn read_update(
-    alloc: Global,
-    body: &[u8],
-    mark: u32,
-    limits: &Limits,
-) -> Result<Option<Call>, NoMemory>
-    ensures { IfOk result (λ call. call ≡ option_and_then (spec.update_with mark) (spec.document_within limits.now.depth body.now)) }
+/// The update that a body describes. It is NotBuilt where the body has its form and its status isn't COMPLETED.
+pub fn update_of(alloc: Global, mark: u32, doc: &Doc) -> Result<Call, HttpFault>
+    ensures ok { IfOk result (λ call. spec.update_of mark doc.now ≡ Ok call) }
+    ensures err { IfErr result (λ fault. fault ≢ HttpFault.NoMemory → spec.update_of mark doc.now ≡ Err fault) }
 {
-    match read_document(alloc, body, limits)? {
-        Some(doc) => update_with(alloc, mark, &doc),
-        None => Ok(None),
+    if !is_update(doc) {
+        return Err(HttpFault::BadBody);
+    }
+    match status_in(doc) {
+        Some(TaskStatus::Completed) => Ok(completion_of(alloc, mark, doc)?),
+        _ => Err(HttpFault::NotBuilt),
     }
 }
 
-fn update_with(alloc: Global, mark: u32, doc: &Doc) -> Result<Option<Call>, NoMemory>
-    ensures { IfOk result (λ call. call ≡ spec.update_with mark doc.now) }
+/// The update of a completed task.
+fn completion_of(alloc: Global, mark: u32, doc: &Doc) -> Result<Call, NoMemory>
+    ensures { IfOk result (λ call. spec.update_with mark doc.now (Some TaskStatus.Completed) ≡ Ok call) }
 {
-    if !is_completion(doc) {
-        return Ok(None);
+    Ok(Call::Update {
+        flow: wanted_flow(mark, text_in(doc, "workflowInstanceId")),
+        task: task_named(mark, text_in(doc, "taskId")),
+        outcome: result_of(alloc, TaskStatus::Completed, doc)?,
+    })
+}
+
+fn is_update(doc: &Doc) -> bool
+    ensures { result ≡ spec.is_update doc.now }
+{
+    is_table(doc)
+        && is_formed(doc, "taskId", Form::AText)
+        && is_told(doc)
+        && is_absent_or_formed(doc, "workflowInstanceId", Form::AText)
+        && is_absent_or_formed(doc, "reasonForIncompletion", Form::AText)
+        && is_absent_or_formed(doc, "workerId", Form::AText)
+        && is_absent_or_formed(doc, "outputData", Form::ATable)
+        && is_absent_or_number(doc, "callbackAfterSeconds", 0, 2_147_483_647)
+}
+
+fn is_told(doc: &Doc) -> bool
+    ensures { result ≡ is_given spec.is_told_status (codes "status") doc.now }
+{
+    match given(doc, "status") {
+        Some(value) => told_status(value).is_some(),
+        None => false,
     }
-    let outcome = completed_with(alloc, output_of(alloc, doc)?)?;
-    Ok(Some(Call::Update {
-        flow: wanted_flow(mark, text_at(doc, FLOW_ID)),
-        task: TaskNo(id_number(mark, IdKind::Task, text_at(doc, TASK_ID))),
-        outcome,
-    }))
 }
 
-/// A table of exactly these keys says that a task was completed.
-fn is_completion(doc: &Doc) -> bool
-    ensures { result ≡ spec.is_completion doc.now }
+fn status_in(doc: &Doc) -> Option<TaskStatus>
+    ensures { result ≡ option_and_then spec.told_status (given_in (codes "status") doc.now) }
 {
-    has_keys(doc, &[OUTPUT, STATUS, TASK_ID, FLOW_ID])
-        && text_at(doc, STATUS) == "COMPLETED"
-        && is_text_at(doc, TASK_ID)
-        && is_text_at(doc, FLOW_ID)
-        && is_table_at(doc, OUTPUT)
+    told_status(given(doc, "status")?)
 }
 
-fn output_of(alloc: Global, doc: &Doc) -> Result<Doc, NoMemory>
-    ensures { IfOk result (λ output. output ≡ unwrap_or (field (codes "outputData") doc.now) Null) }
+/// The status that the value names, where a worker may tell it.
+fn told_status(value: &Doc) -> Option<TaskStatus>
+    ensures { result ≡ spec.told_status value.now }
 {
-    match doc.field(OUTPUT) {
-        Some(output) => copy(alloc, output),
-        None => Ok(Doc::Null),
+    if_result(TaskStatus::read(value.as_text()?.as_str())?)
+}
+
+fn if_result(status: TaskStatus) -> Option<TaskStatus>
+    ensures { result ≡ spec.if_result status }
+{
+    match status {
+        TaskStatus::InProgress
+        | TaskStatus::Completed
+        | TaskStatus::Failed
+        | TaskStatus::FailedWithTerminalError => Some(status),
+        _ => None,
     }
 }
 
-fn completed_with(alloc: Global, output: Doc) -> Result<TaskResult, NoMemory>
-    ensures { IfOk result (λ outcome. outcome ≡ spec.completed_with output) }
+fn result_of(alloc: Global, status: TaskStatus, doc: &Doc) -> Result<TaskResult, NoMemory>
+    ensures { IfOk result (λ outcome. outcome ≡ spec.result_of status doc.now) }
 {
     Ok(TaskResult {
-        status: TaskStatus::Completed,
-        output,
-        reason: Text::new(alloc, "")?,
-        callback: 0,
-        worker: None,
+        status,
+        output: table_in(alloc, doc, "outputData")?,
+        reason: Text::new(alloc, text_in(doc, "reasonForIncompletion"))?,
+        callback: number_or(doc, "callbackAfterSeconds", 0),
+        worker: worker_in(alloc, doc)?,
     })
+}
+
+fn worker_in(alloc: Global, doc: &Doc) -> Result<Option<Text>, NoMemory>
+    ensures { IfOk result (λ worker. worker ≡ option_and_then as_text (given_in (codes "workerId") doc.now)) }
+{
+    let Some(value) = given(doc, "workerId") else {
+        return Ok(None);
+    };
+    match value.as_text() {
+        Some(text) => Ok(Some(text.copy(alloc)?)),
+        None => Ok(None),
+    }
 }
 
 /// The flow that an update names, where it names one.
@@ -89,5 +119,5 @@ fn wanted_flow(mark: u32, text: &str) -> Option<FlowNo>
     if text.is_empty() {
         return None;
     }
-    Some(FlowNo(id_number(mark, IdKind::Flow, text)))
+    Some(flow_named(mark, text))
 }

@@ -269,210 +269,208 @@ fn flow(alloc: Global, nodes: Items<Node>, words: &str) -> Result<Flow, NoMemory
     Ok(flow)
 }
 
-const ORDER: [(&str, Next); 19] = [
-    ("", Next::Schedule(0, 0)),
-    ("0S", Next::Waits),
-    ("0I", Next::Waits),
-    ("0C", Next::Schedule(1, 0)),
-    ("0K", Next::Schedule(1, 0)),
-    ("0E", Next::Schedule(1, 0)),
-    ("0F", Next::Waits),
-    ("0X", Next::Waits),
-    ("0T", Next::Waits),
-    ("0N", Next::Waits),
-    ("0F 0S", Next::Waits),
-    ("0F 0C", Next::Schedule(1, 0)),
-    ("0C 0F", Next::Waits),
-    ("0C'", Next::Schedule(0, 0)),
-    ("0C 0F'", Next::Schedule(1, 0)),
-    ("0F' 0C", Next::Schedule(1, 0)),
-    ("0C@1", Next::Schedule(0, 0)),
-    ("0C 1I", Next::Waits),
-    ("0C 1C", Next::Done),
-];
+/// 0 DO_WHILE of nothing.
+fn empty_looped(alloc: Global) -> Result<Items<Node>, NoMemory> {
+    let kind = NodeKind::Loop(Count::Number(3), Items::new(alloc));
+    one(alloc, 0, kind)
+}
+
+/// The nodes of a form.
+fn nodes(alloc: Global, form: &str) -> Result<Items<Node>, NoMemory> {
+    match form {
+        "order" => order(alloc),
+        "forked" => forked(alloc),
+        "switched" => switched(alloc),
+        "looped" => looped(alloc),
+        "nested" => nested(alloc),
+        "plain" => plain_kinds(alloc),
+        "empty branches" => empty_forked(alloc),
+        "empty body" => empty_looped(alloc),
+        _ => Ok(Items::new(alloc)),
+    }
+}
+
+/// What stands before and behind the first sign that parts a row. A row without one is told apart by the test.
+fn halves(row: &str) -> (&str, &str) {
+    match row.split_once("; ") {
+        Some(halves) => halves,
+        None => (row, ""),
+    }
+}
+
+/// What a flow asks for next.
+fn told(alloc: Global, next: Next) -> Result<String, Fail> {
+    match next {
+        Next::Schedule(node, turn) => Ok(format!(in alloc; "schedule {node} {turn}")?),
+        Next::Join(node, turn) => Ok(format!(in alloc; "join {node} {turn}")?),
+        Next::Turn(node, turn) => Ok(format!(in alloc; "turn {node} {turn}")?),
+        Next::Waits => Ok(String::from_str(alloc, "waits")?),
+        Next::Done => Ok(String::from_str(alloc, "done")?),
+    }
+}
+
+/// A form, the words of its attempts, and what the flow asks for next.
+const NEXT: &str = r#"order; ; schedule 0 0
+order; 0S; waits
+order; 0I; waits
+order; 0C; schedule 1 0
+order; 0K; schedule 1 0
+order; 0E; schedule 1 0
+order; 0F; waits
+order; 0X; waits
+order; 0T; waits
+order; 0N; waits
+order; 0F 0S; waits
+order; 0F 0C; schedule 1 0
+order; 0C 0F; waits
+order; 0C'; schedule 0 0
+order; 0C 0F'; schedule 1 0
+order; 0F' 0C; schedule 1 0
+order; 0C@1; schedule 0 0
+order; 0C 1I; waits
+order; 0C 1C; done
+forked; ; schedule 0 0
+forked; 0I; waits
+forked; 0C; schedule 3 0
+forked; 0C 3I; schedule 1 0
+forked; 0C 3I 1S; schedule 2 0
+forked; 0C 3I 1F; schedule 2 0
+forked; 0C 3I 1S 2S; waits
+forked; 0C 3I 1C 2I; waits
+forked; 0C 3I 1F 2C; waits
+forked; 0C 3I 1C 2F 2S; waits
+forked; 0C 3I 1C; schedule 2 0
+forked; 0C 3I 1C 2C; join 3 0
+forked; 0C 3I 1E 2K; join 3 0
+forked; 0C 3I 1C 1C' 2C; join 3 0
+forked; 0C 3F 1C 2C; waits
+forked; 0C 3C; done
+switched; ; schedule 0 0
+switched; 0C=a; schedule 1 0
+switched; 0C=b; schedule 2 0
+switched; 0C; schedule 2 0
+switched; 0C=a 1S; waits
+switched; 0C=a 1F; waits
+switched; 0C=a 1C; schedule 3 0
+switched; 0C=a 2C; schedule 1 0
+switched; 0I=a; schedule 1 0
+switched; 0I=a 1C; waits
+switched; 0F=a; waits
+switched; 0C=a 1C 3C; done
+looped; ; schedule 0 0
+looped; 0It1; schedule 1 1
+looped; 0It1 1C; schedule 1 1
+looped; 0It1 1S@1; waits
+looped; 0It1 1F@1; waits
+looped; 0It1 1C@1; turn 0 0
+looped; 0It2 1C@1; schedule 1 2
+looped; 0Ct2 1C@1 1C@2; schedule 2 0
+looped; 0X; waits
+nested; 0It2 1C@2; schedule 5 2
+nested; 0It2 1C@2 5I@2 2C@2=a; schedule 3 2
+nested; 0It2 1C@2 5I@2 2C@2=b; schedule 4 2
+nested; 0It2 1C@2 5I@2 2C@2=a 3I@2; schedule 4 2
+nested; 0It2 1C@2 5I@2 2C@2=a 3C@1 4C@2; schedule 3 2
+nested; 0It2 1C@2 5I@2 2C@2=a 3C@2 4C@2; join 5 2
+nested; 0It2 1C@2 5C@2 2C@2=a 3C@2 4C@2; turn 0 0
+nested; 0Ct2 5C@2; schedule 6 0
+plain; ; schedule 0 0
+plain; 0C; schedule 1 0
+plain; 0C 1C; schedule 2 0
+plain; 0C 1C 2C; schedule 3 0
+plain; 0C 1C 2C 3C; schedule 4 0
+plain; 0C 1C 2C 3C 4C; done
+none; ; done
+empty branches; 0C 1I; join 1 0
+empty body; 0It1; turn 0 0"#;
 
 #[test]
-fn a_list_goes_on_node_by_node(rt: HostRuntime) -> Result<(), Fail> {
-    for (words, next) in ORDER {
-        let flow = flow(rt.alloc(), order(rt.alloc())?, words)?;
-        assert_eq!(rt; next_node(&flow), next);
+fn each_flow_asks_for_its_next_step(rt: HostRuntime) -> Result<(), Fail> {
+    let alloc = rt.alloc();
+    for row in NEXT.split('\n') {
+        let (form, rest) = halves(row);
+        let (words, next) = halves(rest);
+        let flow = flow(alloc, nodes(alloc, form)?, words)?;
+        let found = told(alloc, next_node(&flow))?;
+        assert_eq!(rt; found.as_str(), next, "{row}");
     }
     Ok(())
 }
 
-const FORKED: [(&str, Next); 16] = [
-    ("", Next::Schedule(0, 0)),
-    ("0I", Next::Waits),
-    ("0C", Next::Schedule(3, 0)),
-    ("0C 3I", Next::Schedule(1, 0)),
-    ("0C 3I 1S", Next::Schedule(2, 0)),
-    ("0C 3I 1F", Next::Schedule(2, 0)),
-    ("0C 3I 1S 2S", Next::Waits),
-    ("0C 3I 1C 2I", Next::Waits),
-    ("0C 3I 1F 2C", Next::Waits),
-    ("0C 3I 1C 2F 2S", Next::Waits),
-    ("0C 3I 1C", Next::Schedule(2, 0)),
-    ("0C 3I 1C 2C", Next::Join(3, 0)),
-    ("0C 3I 1E 2K", Next::Join(3, 0)),
-    ("0C 3I 1C 1C' 2C", Next::Join(3, 0)),
-    ("0C 3F 1C 2C", Next::Waits),
-    ("0C 3C", Next::Done),
-];
+fn mark_text(mark: Mark) -> &'static str {
+    match mark {
+        Mark::Fresh => "fresh",
+        Mark::Open => "open",
+        Mark::Done => "done",
+        Mark::Lost => "lost",
+    }
+}
+
+/// A form, the words of its attempts, and the mark of a node: behind the node's index and the iteration.
+const MARKS: &str = r#"switched; ; 00 fresh
+switched; 0C=a; 00 open
+switched; 0C=b; 00 open
+switched; 0C; 00 open
+switched; 0C=a 1S; 00 open
+switched; 0C=a 1F; 00 open
+switched; 0C=a 1C; 00 done
+switched; 0C=a 2C; 00 open
+switched; 0I=a; 00 open
+switched; 0I=a 1C; 00 open
+switched; 0F=a; 00 lost
+switched; 0C=a 1C 3C; 00 done
+looped; ; 11 fresh
+looped; 0It1; 11 fresh
+looped; 0It1 1C; 11 fresh
+looped; 0It1 1S@1; 11 open
+looped; 0It1 1F@1; 11 lost
+looped; 0It1 1C@1; 11 done
+looped; 0It2 1C@1; 11 done
+looped; 0Ct2 1C@1 1C@2; 11 done
+looped; 0X; 11 fresh
+nested; 0It2 1C@2; 22 fresh
+nested; 0It2 1C@2 5I@2 2C@2=a; 22 open
+nested; 0It2 1C@2 5I@2 2C@2=b; 22 done
+nested; 0It2 1C@2 5I@2 2C@2=a 3I@2; 22 open
+nested; 0It2 1C@2 5I@2 2C@2=a 3C@1 4C@2; 22 open
+nested; 0It2 1C@2 5I@2 2C@2=a 3C@2 4C@2; 22 done
+nested; 0It2 1C@2 5C@2 2C@2=a 3C@2 4C@2; 22 done
+nested; 0Ct2 5C@2; 22 fresh
+none; ; 00 fresh"#;
 
 #[test]
-fn branches_run_beside_one_another(rt: HostRuntime) -> Result<(), Fail> {
-    for (words, next) in FORKED {
-        let flow = flow(rt.alloc(), forked(rt.alloc())?, words)?;
-        assert_eq!(rt; next_node(&flow), next);
+fn each_node_has_its_mark(rt: HostRuntime) -> Result<(), Fail> {
+    let alloc = rt.alloc();
+    for row in MARKS.split('\n') {
+        let (form, rest) = halves(row);
+        let (words, place) = halves(rest);
+        let flow = flow(alloc, nodes(alloc, form)?, words)?;
+        let (node, turn) = first_two(place.as_bytes());
+        let found = mark(&flow, digit(node), digit(turn));
+        assert!(rt; place.ends_with(mark_text(found)), "{row}");
     }
     Ok(())
 }
 
-const SWITCHED: [(&str, Next, Mark); 12] = [
-    ("", Next::Schedule(0, 0), Mark::Fresh),
-    ("0C=a", Next::Schedule(1, 0), Mark::Open),
-    ("0C=b", Next::Schedule(2, 0), Mark::Open),
-    ("0C", Next::Schedule(2, 0), Mark::Open),
-    ("0C=a 1S", Next::Waits, Mark::Open),
-    ("0C=a 1F", Next::Waits, Mark::Open),
-    ("0C=a 1C", Next::Schedule(3, 0), Mark::Done),
-    ("0C=a 2C", Next::Schedule(1, 0), Mark::Open),
-    ("0I=a", Next::Schedule(1, 0), Mark::Open),
-    ("0I=a 1C", Next::Waits, Mark::Open),
-    ("0F=a", Next::Waits, Mark::Lost),
-    ("0C=a 1C 3C", Next::Done, Mark::Done),
-];
-
-#[test]
-fn a_switch_goes_on_with_its_chosen_list(rt: HostRuntime) -> Result<(), Fail> {
-    for (words, next, marked) in SWITCHED {
-        let flow = flow(rt.alloc(), switched(rt.alloc())?, words)?;
-        assert_eq!(rt; next_node(&flow), next);
-        assert_eq!(rt; mark(&flow, 0, 0), marked);
-    }
-    Ok(())
-}
-
-const LOOPED: [(&str, Next, Mark); 9] = [
-    ("", Next::Schedule(0, 0), Mark::Fresh),
-    ("0It1", Next::Schedule(1, 1), Mark::Fresh),
-    ("0It1 1C", Next::Schedule(1, 1), Mark::Fresh),
-    ("0It1 1S@1", Next::Waits, Mark::Open),
-    ("0It1 1F@1", Next::Waits, Mark::Lost),
-    ("0It1 1C@1", Next::Turn(0, 0), Mark::Done),
-    ("0It2 1C@1", Next::Schedule(1, 2), Mark::Done),
-    ("0Ct2 1C@1 1C@2", Next::Schedule(2, 0), Mark::Done),
-    ("0X", Next::Waits, Mark::Fresh),
-];
-
-#[test]
-fn a_loop_goes_on_with_its_body_in_its_turn(rt: HostRuntime) -> Result<(), Fail> {
-    for (words, next, marked) in LOOPED {
-        let flow = flow(rt.alloc(), looped(rt.alloc())?, words)?;
-        assert_eq!(rt; next_node(&flow), next);
-        assert_eq!(rt; mark(&flow, 1, 1), marked);
-    }
-    Ok(())
-}
-
-const NESTED: [(&str, Next, Mark); 8] = [
-    ("0It2 1C@2", Next::Schedule(5, 2), Mark::Fresh),
-    ("0It2 1C@2 5I@2 2C@2=a", Next::Schedule(3, 2), Mark::Open),
-    ("0It2 1C@2 5I@2 2C@2=b", Next::Schedule(4, 2), Mark::Done),
-    (
-        "0It2 1C@2 5I@2 2C@2=a 3I@2",
-        Next::Schedule(4, 2),
-        Mark::Open,
-    ),
-    (
-        "0It2 1C@2 5I@2 2C@2=a 3C@1 4C@2",
-        Next::Schedule(3, 2),
-        Mark::Open,
-    ),
-    (
-        "0It2 1C@2 5I@2 2C@2=a 3C@2 4C@2",
-        Next::Join(5, 2),
-        Mark::Done,
-    ),
-    (
-        "0It2 1C@2 5C@2 2C@2=a 3C@2 4C@2",
-        Next::Turn(0, 0),
-        Mark::Done,
-    ),
-    ("0Ct2 5C@2", Next::Schedule(6, 0), Mark::Fresh),
-];
-
-#[test]
-fn a_switch_stands_in_a_fork_in_a_loop(rt: HostRuntime) -> Result<(), Fail> {
-    for (words, next, marked) in NESTED {
-        let flow = flow(rt.alloc(), nested(rt.alloc())?, words)?;
-        assert_eq!(rt; next_node(&flow), next);
-        assert_eq!(rt; mark(&flow, 2, 2), marked);
-    }
-    Ok(())
-}
-
-const PLAIN: [(&str, Next); 6] = [
-    ("", Next::Schedule(0, 0)),
-    ("0C", Next::Schedule(1, 0)),
-    ("0C 1C", Next::Schedule(2, 0)),
-    ("0C 1C 2C", Next::Schedule(3, 0)),
-    ("0C 1C 2C 3C", Next::Schedule(4, 0)),
-    ("0C 1C 2C 3C 4C", Next::Done),
-];
-
-#[test]
-fn nodes_without_lists_are_scheduled(rt: HostRuntime) -> Result<(), Fail> {
-    for (words, next) in PLAIN {
-        let flow = flow(rt.alloc(), plain_kinds(rt.alloc())?, words)?;
-        assert_eq!(rt; next_node(&flow), next);
-    }
-    Ok(())
-}
-
-#[test]
-fn no_nodes_are_done(rt: HostRuntime) -> Result<(), Fail> {
-    let flow = flow(rt.alloc(), Items::new(rt.alloc()), "")?;
-    assert_eq!(rt; next_node(&flow), Next::Done);
-    assert_eq!(rt; mark(&flow, 0, 0), Mark::Fresh);
-    Ok(())
-}
-
-#[test]
-fn empty_branches_are_joined(rt: HostRuntime) -> Result<(), Fail> {
-    let flow = flow(rt.alloc(), empty_forked(rt.alloc())?, "0C 1I")?;
-    assert_eq!(rt; next_node(&flow), Next::Join(1, 0));
-    Ok(())
-}
-
-#[test]
-fn an_empty_body_is_turned(rt: HostRuntime) -> Result<(), Fail> {
-    let body = NodeKind::Loop(Count::Number(3), Items::new(rt.alloc()));
-    let flow = flow(rt.alloc(), one(rt.alloc(), 0, body)?, "0It1")?;
-    assert_eq!(rt; next_node(&flow), Next::Turn(0, 0));
-    Ok(())
-}
-
+/// The words of the attempts of `order`, and the number of the last one at its first node: 0 where there is none.
 /// Numbers rise by three from 10.
-const LAST: [(&str, Option<TaskNo>); 7] = [
-    ("", None),
-    ("1C", None),
-    ("0C@1", None),
-    ("0C'", None),
-    ("0F 1C 0S", Some(TaskNo(16))),
-    ("0C 0F'", Some(TaskNo(10))),
-    ("0F' 0C 0S@1", Some(TaskNo(13))),
-];
+const LAST: &str = r#"; 0
+1C; 0
+0C@1; 0
+0C'; 0
+0F 1C 0S; 16
+0C 0F'; 10
+0F' 0C 0S@1; 13"#;
 
 #[test]
 fn the_last_attempt_has_the_greatest_number(rt: HostRuntime) -> Result<(), Fail> {
-    for (words, last) in LAST {
-        let flow = flow(rt.alloc(), order(rt.alloc())?, words)?;
-        assert_eq!(rt; flow.last(0, 0), last);
-        assert_eq!(rt;
-            flow.last_attempt(0, 0).map(|attempt| attempt.number()),
-            last
-        );
+    let alloc = rt.alloc();
+    for row in LAST.split('\n') {
+        let (words, number) = halves(row);
+        let flow = flow(alloc, order(alloc)?, words)?;
+        let last = flow.last(0, 0).map_or(0, |task| task.0);
+        let found = format!(in alloc; "{last}")?;
+        assert_eq!(rt; found.as_str(), number, "{row}");
     }
     Ok(())
 }

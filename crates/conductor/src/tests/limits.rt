@@ -1,7 +1,6 @@
 //! The machine under small limits, and calls of it that no request is yet.
 
 ghost use Rattle.std.specs.Prelude.{◌≤◌, IfOk};
-ghost use Rattle.wf_machine.specs.Calls.{IsProper};
 ghost use Rattle.wf_machine.specs.Replies.{IsPrintable};
 
 use crate::tests::scripts::{cut_line, written};
@@ -10,9 +9,9 @@ use std::process::Abort;
 use std::test::Fail;
 use wf_core::Core;
 use wf_doc::{Doc, Fields, Text};
-use wf_machine::{Call, FlowDef, Reply, TaskResult};
+use wf_machine::{Call, Reply, TaskResult};
 use wf_names::{IdKind, Refusal, TaskNo, TaskStatus};
-use wf_rest::{moment_of, print_reply, read_call};
+use wf_rest::{Routes, moment_of, print_reply, read_call};
 use wf_wire::{Limits, MemorySource, Message, all_messages};
 
 /// The last moment that there is, in milliseconds.
@@ -212,6 +211,76 @@ GET /api/workflow/<F1>
 GET /api/workflow/<F2>
 + taskId=<T2>, workflowInstanceId=<F2>, scheduledTime=1000, endTime=2000, updateTime=2000, status=COMPLETED, outputData={"a":[[]]}
 = 200 flow workflowId=<F2>, createTime=1000, startTime=1000, endTime=2000, output={}, status=FAILED, reasonForIncompletion=document limit, workflowName=one
+
+# a start's input is measured with the keys that the workflow's template gives it
+document=20
+POST /api/metadata/taskdefs [{"name":"pick"}]
+= 200
+POST /api/metadata/workflow {"name":"one","inputTemplate":{"k":"0123456"},"tasks":[{"name":"pick","taskReferenceName":"a"}]}
+= 200
+POST /api/workflow/one {"n":123456}
+= DOCUMENT_LIMIT
+POST /api/workflow/one {}
+= 200 <F1>
+POST /api/workflow/one {"k":"","n":123456}
+= 200 <F2>
+GET /api/workflow/<F1>
++
+= 200 flow input={"k":"0123456"}, workflowName=one
+GET /api/workflow/<F2>
++ taskId=<T2>, workflowInstanceId=<F2>
+= 200 flow workflowId=<F2>, input={"k":"","n":123456}, workflowName=one
+
+# an input of a task is measured once it is filled
+document=28
+POST /api/metadata/taskdefs [{"name":"pick"}]
+= 200
+POST /api/metadata/workflow {"name":"one","tasks":[{"name":"pick","taskReferenceName":"a","inputParameters":{"x":"${workflow.input.s}${workflow.input.s}"}}]}
+= 200
+POST /api/workflow/one {"s":"0123456789"}
+= 200 <F1>
+POST /api/workflow/one {"s":"0123456789a"}
+= 200 <F2>
+GET /api/workflow/<F1>
++ inputData={"x":"01234567890123456789"}
+= 200 flow input={"s":"0123456789"}, workflowName=one
+GET /api/workflow/<F2>
+= 200 flow workflowId=<F2>, input={"s":"0123456789a"}, status=FAILED, reasonForIncompletion=document limit, workflowName=one
+GET /api/tasks/<T2>
+= NOT_FOUND
+
+# an input of a task is measured with the keys that the task's template gives it
+document=17
+POST /api/metadata/taskdefs [{"name":"pick","inputTemplate":{"k":"012345678"}},{"name":"pack","inputTemplate":{"k":"0123456789"}}]
+= 200
+POST /api/metadata/workflow {"name":"order","tasks":[{"name":"pick","taskReferenceName":"a"},{"name":"pack","taskReferenceName":"b"}]}
+= 200
+POST /api/workflow/order {}
+= 200 <F1>
+POST /api/tasks {"taskId":"<T1>","status":"COMPLETED"}
+= 200 <T1>
+GET /api/workflow/<F1>
++ inputData={"k":"012345678"}, status=COMPLETED
+= 200 flow status=FAILED, reasonForIncompletion=document limit
+
+# an output of a flow is measured once it is filled
+document=28
+POST /api/metadata/taskdefs [{"name":"pick"}]
+= 200
+POST /api/metadata/workflow {"name":"one","tasks":[{"name":"pick","taskReferenceName":"a"}],"outputParameters":{"x":"${a.output.s}${a.output.s}"}}
+= 200
+POST /api/workflow/one {}
+= 200 <F1>
+POST /api/workflow/one {}
+= 200 <F2>
+POST /api/tasks {"taskId":"<T1>","status":"COMPLETED","outputData":{"s":"0123456789"}}
+= 200 <T1>
+POST /api/tasks {"taskId":"<T2>","status":"COMPLETED","outputData":{"s":"0123456789a"}}
+= 200 <T2>
+GET /api/workflow/<F1>?includeTasks=false
+= 200 flow output={"x":"01234567890123456789"}, status=COMPLETED, workflowName=one
+GET /api/workflow/<F2>?includeTasks=false
+= 200 flow workflowId=<F2>, status=FAILED, reasonForIncompletion=document limit, workflowName=one
 "#;
 
 /// The number that a word `NAME=NUMBER` says of the limit of that name, or else the standard one. None is above that.
@@ -238,14 +307,22 @@ fn limits_of(words: &str) -> Result<Limits, Fail> {
 }
 
 /// One step of the machine, where it can make one more.
-fn stepped(alloc: Global, core: &mut Core, moment: u64, message: &Message) -> Result<Reply, Fail>
+fn stepped(
+    alloc: Global,
+    core: &mut Core,
+    routes: &Routes,
+    moment: u64,
+    message: &Message,
+) -> Result<Reply, Fail>
     ensures { IfOk result IsPrintable }
 {
     if core.entries() >= 1 << 61 {
         return Err(Fail::new("too many entries"));
     }
-    let call = read_call(alloc, message, 1, &Limits::STANDARD)?;
-    Ok(core.step(alloc, 0, moment.min(LAST_MOMENT), call))
+    match read_call(alloc, message, 1, &Limits::STANDARD, routes) {
+        Ok(call) => Ok(core.step(alloc, 0, moment.min(LAST_MOMENT), call)),
+        Err(_) => Err(Fail::new("a request is no call")),
+    }
 }
 
 /// The moment at which the message acts, where this one is in force before it.
@@ -260,11 +337,12 @@ fn moment_at(before: u64, message: &Message) -> u64 {
 fn answers(alloc: Global, core: &mut Core, requests: &str) -> Result<String, Fail> {
     let mut source = MemorySource::new(alloc, requests.as_bytes(), 4096, &[])?;
     let items = all_messages(alloc, &mut source, &Limits::STANDARD);
+    let routes = Routes::new(alloc)?;
     let mut moment = 0;
     let mut out = String::new(alloc);
     for message in &items.messages {
         moment = moment_at(moment, message);
-        let reply = stepped(alloc, core, moment, message)?;
+        let reply = stepped(alloc, core, &routes, moment, message)?;
         out.push_str(print_reply(alloc, &reply, 1, false, false)?.as_str())?;
     }
     Ok(out)
@@ -316,63 +394,6 @@ fn a_core_tells_what_it_was_made_with(rt: HostRuntime) -> Result<(), Fail> {
     assert!(rt; matches!(reply, Reply::Refused(Refusal::NotFound)));
     assert_eq!(rt; core.entries(), 1);
     Ok(())
-}
-
-/// The workflow of two tasks, in that version.
-fn order(alloc: Global, version: u32) -> Result<FlowDef, Fail> {
-    let exchange = written(alloc, "<ORDER>")?;
-    let mut source = MemorySource::new(alloc, exchange.input.as_str().as_bytes(), 4096, &[])?;
-    let items = all_messages(alloc, &mut source, &Limits::STANDARD);
-    for message in &items.messages {
-        if let Call::AddFlowDef(mut def) = read_call(alloc, message, 1, &Limits::STANDARD)? {
-            def.version = version;
-            return Ok(def);
-        }
-    }
-    Err(Fail::new("no definition"))
-}
-
-fn start_of(alloc: Global, version: Option<u32>) -> Result<Call, Fail>
-    ensures { IfOk result IsProper }
-{
-    Ok(Call::Start {
-        name: Text::new(alloc, "order")?,
-        version,
-        input: Doc::Table(Fields::new(alloc)),
-        correlation: Text::new(alloc, "c")?,
-    })
-}
-
-#[test]
-fn the_greatest_version_is_started(rt: HostRuntime) -> Result<(), Fail> {
-    let alloc = rt.alloc();
-    let mut core = Core::new(alloc, 1, Limits::STANDARD)?;
-    for version in [2, 10, 1] {
-        assert!(rt; core.entries() < 3);
-        let reply = core.step(alloc, 0, 0, Call::AddFlowDef(order(alloc, version)?));
-        assert!(rt; matches!(reply, Reply::Accepted));
-    }
-    assert!(rt; core.entries() == 3);
-    let again = core.step(alloc, 0, 0, Call::AddFlowDef(order(alloc, 2)?));
-    assert!(rt; matches!(again, Reply::Refused(Refusal::Exists)));
-    let greatest = core.step(alloc, 0, 0, start_of(alloc, None)?);
-    assert!(rt; matches!(greatest, Reply::Id(IdKind::Flow, 1)));
-    let given = core.step(alloc, 0, 0, start_of(alloc, Some(2))?);
-    assert!(rt; matches!(given, Reply::Id(IdKind::Flow, 2)));
-    let missing = core.step(alloc, 0, 0, start_of(alloc, Some(3))?);
-    assert!(rt; matches!(missing, Reply::Refused(Refusal::NotFound)));
-    assert_script(
-        &rt,
-        alloc,
-        &mut core,
-        "versions",
-        r#"
-        GET /api/workflow/<F1>
-        = 200 flow correlationId=c, status=FAILED, reasonForIncompletion=no task definition pick, workflowVersion=10
-        GET /api/workflow/<F2>
-        = 200 flow workflowId=<F2>, correlationId=c, status=FAILED, reasonForIncompletion=no task definition pick, workflowVersion=2
-        "#,
-    )
 }
 
 /// An attempt goes on, and is to be handed out again after so many seconds.

@@ -40,27 +40,39 @@ POST /api/tasks {"workflowInstanceId":"<F1>","taskId":"<T1>","status":"COMPLETED
 GET /api/tasks/<T1>
 = 200 task scheduledTime=1000, startTime=2000, endTime=2000, updateTime=2000, pollCount=1, status=COMPLETED
 
-# a request that is refused or isn't built states a moment too
+# a request that is refused states a moment too, whatever refuses it
 <ONE>
 POST /api/workflow/none @1000 {}
 = NOT_FOUND
 POST /api/workflow/one {}
 = 200 <F1>
 PUT /nowhere @2000
-= NOT_BUILT
+= NO_ROUTE
 POST /api/workflow/one {}
 = 200 <F2>
 - Content-Encoding: gzip
 POST /api/workflow/one @3000 {}
-= NOT_BUILT
+= CONTENT_ENCODING
 POST /api/workflow/one {}
 = 200 <F3>
+DELETE /api/tasks @4000
+= BAD_METHOD POST
+POST /api/workflow/one {}
+= 200 <F4>
+POST /api/workflow/one @5000 {"a":1.5
+= FRACTION
+POST /api/workflow/one {}
+= 200 <F5>
 GET /api/tasks/<T1>
 = 200 task scheduledTime=1000, updateTime=1000
 GET /api/tasks/<T2>
 = 200 task taskId=<T2>, workflowInstanceId=<F2>, scheduledTime=2000, updateTime=2000
 GET /api/tasks/<T3>
 = 200 task taskId=<T3>, workflowInstanceId=<F3>, scheduledTime=3000, updateTime=3000
+GET /api/tasks/<T4>
+= 200 task taskId=<T4>, workflowInstanceId=<F4>, scheduledTime=4000, updateTime=4000
+GET /api/tasks/<T5>
+= 200 task taskId=<T5>, workflowInstanceId=<F5>, scheduledTime=5000, updateTime=5000
 
 # a bad moment does nothing, and leaves the moment in force
 <ONE>
@@ -143,12 +155,16 @@ GET /api/tasks/poll/pick
 GET /api/tasks/poll/pick
 = BAD_MOMENT
 
-# a bad moment goes before all else
+# a bad moment goes before all but an encoded body
 PUT / @x
 = BAD_MOMENT
 OPTIONS * @x
 = BAD_MOMENT
+DELETE /api/tasks @x
+= BAD_MOMENT
 GET /api/workflow/none @x
+= BAD_MOMENT
+GET /api/workflow/%FF @x
 = BAD_MOMENT
 GET /api/tasks/poll/pick?domain=x @x
 = BAD_MOMENT
@@ -160,11 +176,23 @@ POST /api/metadata/workflow @x {"name":"one","tasks":[]}
 = BAD_MOMENT
 POST /api/tasks @x {}
 = BAD_MOMENT
-- Content-Encoding: gzip
-POST /api/metadata/taskdefs @x []
+POST /api/tasks @x {"taskId":"<T1>","status":"FAILED"}
 = BAD_MOMENT
-- Content-Encoding: identity
+HEAD /api/tasks @x
+= head BAD_MOMENT
 - Content-Encoding: identity
 GET /api/workflow/none @x
 = BAD_MOMENT
+- Content-Encoding: gzip
+POST /api/metadata/taskdefs @x []
+= CONTENT_ENCODING
+- Content-Encoding: identity
+- Content-Encoding: identity
+GET /api/workflow/none @x
+= CONTENT_ENCODING
+- Content-Encoding:
+- Moment-Ms: 5
+- Moment-Ms: 5
+GET /api/workflow/none
+= CONTENT_ENCODING
 "#;

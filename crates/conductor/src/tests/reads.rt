@@ -59,6 +59,24 @@ GET /api/tasks/00000001-0201-8000-8000-000000000001 @9000
 = NOT_FOUND
 GET /api/workflow/one @9000
 = NOT_FOUND
+GET /api/workflow/00000001-0100-4000-8000-000000000001 @9000
+= NOT_FOUND
+GET /api/workflow/{00000001-0100-4000-8000-000000000001} @9000
+= NOT_FOUND
+GET /api/workflow/urn:uuid:00000001-0100-8000-8000-00000000000g @9000
+= NOT_FOUND
+GET /api/workflow/<F1>x @9000
+= NOT_FOUND
+GET /api/workflow/%20<F1> @9000
+= NOT_FOUND
+GET /api/workflow/a.b @9000
+= NOT_FOUND
+GET /api/workflow/%00 @9000
+= NOT_FOUND
+GET /api/workflow/<LONG>s @9000
+= NOT_FOUND
+GET /api/tasks/a.b @9000
+= NOT_FOUND
 GET /api/workflow/running @9000
 = NOT_FOUND
 GET /api/tasks/poll @9000
@@ -112,5 +130,11 @@ POST /api/tasks {"workflowInstanceId":"urn:uuid:00000001-0100-8000-8000-00000000
 = 200 <T1>
 GET /api/workflow/{<F1>}
 + status=COMPLETED
+= 200 flow status=COMPLETED, workflowName=one
+GET /api/workflow/%7B<F1>%7d?includeTasks=false
+= 200 flow status=COMPLETED, workflowName=one
+GET /api/workflow/00000001%2D0100-8000-8000-%30%30%30000000001?includeTasks=false
+= 200 flow status=COMPLETED, workflowName=one
+GET /api/workflow/URN:UUID:<F1>?includeTasks=false
 = 200 flow status=COMPLETED, workflowName=one
 "#;

@@ -2,8 +2,9 @@
 //!
 //! A line `METHOD TARGET`, perhaps with `@MOMENT` behind it and then a body, is a request. A line `- NAME: VALUE` before it is
 //! one of its fields. A line `= STATUS`, perhaps with a body behind it, is the reply that a request must get, and `= CODE` is
-//! a refusal. A line `! METHOD TARGET ..` is a request that must be refused NOT_BUILT. The
-//! names of [`NAMES`] stand for longer texts.
+//! a refusal. Behind BAD_METHOD stand the methods of its field `Allow`, and behind BAD_DEFINITION its message as JSON prints
+//! it. A line `= head CODE ..` is that refusal as the reply to HEAD, which has no body. A line `! METHOD TARGET ..` is a
+//! request that must be refused NOT_BUILT. The names of [`NAMES`] stand for longer texts.
 //!
 //! A reply's body may be `task KEY=VALUE, KEY=VALUE` or `flow KEY=VALUE, KEY=VALUE`: a task or a flow as it is printed, where
 //! what isn't said is as in [`TASK_AT_FIRST`] or [`FLOW_AT_FIRST`]. Lines `+ KEY=VALUE, KEY=VALUE` before a flow are its tasks.
@@ -108,15 +109,26 @@ const FLOW_AT_FIRST: [(&str, &str); 11] = [
     ("<workflowVersion>", "1"),
 ];
 
-/// The refusals: code, status, message.
-const REFUSALS: [(&str, &str, &str); 6] = [
-    ("NOT_FOUND", "404", "no such thing"),
-    ("EXISTS", "409", "already registered"),
-    ("STORE_FULL", "409", "the store is full"),
-    ("DOCUMENT_LIMIT", "409", "the document is too large"),
-    ("BAD_MOMENT", "400", "Moment-Ms is not a moment"),
-    ("NOT_BUILT", "501", "not built yet"),
-];
+/// The refusals, one on each line: code, status and message.
+const REFUSALS: &str = "\
+NOT_FOUND 404 no such thing
+EXISTS 409 already registered
+NOT_UPDATABLE 409 the task takes no update
+STORE_FULL 409 the store is full
+DOCUMENT_LIMIT 409 the document is too large
+CONTENT_ENCODING 415 the body is encoded
+BAD_MOMENT 400 Moment-Ms is not a moment
+NO_ROUTE 404 no such path
+BAD_METHOD 405 no such method here
+BAD_PATH 400 bad path parameter
+BAD_QUERY 400 bad query
+SYNTAX 400 not a JSON text
+FRACTION 400 a number has a fraction or an exponent
+RANGE 400 a number is out of range
+TOO_DEEP 400 nested too deep
+BAD_BODY 400 the body has another form
+BAD_DEFINITION 400
+NOT_BUILT 501 not built yet";
 
 /// The text with what stands for each of the names.
 fn replaced(alloc: Global, text: &str, names: &[(&str, &str)]) -> Result<String, Fail> {
@@ -162,18 +174,21 @@ fn phrase(status: &str) -> &'static str {
         "204" => "No Content",
         "400" => "Bad Request",
         "404" => "Not Found",
+        "405" => "Method Not Allowed",
         "409" => "Conflict",
+        "415" => "Unsupported Media Type",
         "501" => "Not Implemented",
         _ => "?",
     }
 }
 
-/// The bytes of a reply with this status and this body, which is a table or else an id.
-fn reply(alloc: Global, status: &str, body: &str) -> Result<String, Fail> {
+/// The bytes of a reply with this status, this line of a field before the others, and this body, which is a table or a list
+/// or else an id.
+fn reply(alloc: Global, status: &str, first: &str, body: &str) -> Result<String, Fail> {
     let phrase = phrase(status);
     let length = body.len();
-    let mut out = format!(in alloc; "HTTP/1.1 {status} {phrase}\r\n")?;
-    if body.starts_with('{') {
+    let mut out = format!(in alloc; "HTTP/1.1 {status} {phrase}\r\n{first}")?;
+    if body.starts_with('{') || body.starts_with('[') {
         out.push_str("Content-Type: application/json\r\n")?;
     } else if !body.is_empty() {
         out.push_str("Content-Type: text/plain\r\n")?;
@@ -210,28 +225,80 @@ fn read_request(alloc: Global, fields: &str, line: &str) -> Result<String, Fail>
     }
 }
 
-/// The bytes of the reply that a line says; a flow has these tasks.
-fn read_reply(alloc: Global, tasks: &str, line: &str) -> Result<String, Fail> {
-    for (code, status, message) in REFUSALS {
-        if line == code {
-            let body = format!(in alloc;
-                "{{\"code\":\"{code}\",\"message\":\"{message}\",\"status\":{status}}}"
-            )?;
-            return reply(alloc, status, body.as_str());
+/// The status and the message of a refusal.
+#[derive(Drop)]
+struct Row {
+    status: &'static str,
+    message: &'static str,
+}
+
+/// The row of the refusal with that code.
+fn refusal_row(code: &str) -> Option<Row> {
+    for row in REFUSALS.lines() {
+        let (name, rest) = cut(row);
+        if name == code {
+            let (status, message) = cut(rest);
+            return Some(Row { status, message });
         }
     }
+    None
+}
+
+/// The text, or the other one where it is empty.
+fn text_or<'a>(text: &'a str, otherwise: &'a str) -> &'a str {
+    if text.is_empty() { otherwise } else { text }
+}
+
+/// The bytes of the refusal that a line says, where it says one.
+fn read_refusal(alloc: Global, line: &str) -> Result<Option<String>, Fail> {
+    let (code, words) = cut(line);
+    let Some(row) = refusal_row(code) else {
+        return Ok(None);
+    };
+    let first = if code == "BAD_METHOD" {
+        format!(in alloc; "Allow: {words}\r\n")?
+    } else {
+        String::new(alloc)
+    };
+    let body = refusal_body(alloc, code, text_or(row.message, words), row.status)?;
+    Ok(Some(reply(alloc, row.status, first.as_str(), body.as_str())?))
+}
+
+fn refusal_body(alloc: Global, code: &str, message: &str, status: &str) -> Result<String, Fail> {
+    Ok(format!(in alloc; "{{\"code\":\"{code}\",\"message\":\"{message}\",\"status\":{status}}}")?)
+}
+
+/// The bytes of the refusal that a line says, but for its body.
+fn read_head(alloc: Global, line: &str) -> Result<String, Fail> {
+    let Some(refusal) = read_refusal(alloc, line)? else {
+        return Err(Fail::new(format_args!("no refusal {line}")));
+    };
+    match refusal.as_str().split_once("\r\n\r\n") {
+        Some((head, _)) => Ok(format!(in alloc; "{head}\r\n\r\n")?),
+        None => Ok(refusal),
+    }
+}
+
+/// The bytes of the reply that a line says; a flow has these tasks.
+fn read_reply(alloc: Global, tasks: &str, line: &str) -> Result<String, Fail> {
+    if let Some(refusal) = read_refusal(alloc, line)? {
+        return Ok(refusal);
+    }
     let (status, body) = cut(line);
+    if status == "head" {
+        return read_head(alloc, body);
+    }
     match cut(body) {
         ("task", words) => {
             let task = filled(alloc, TASK, words, &TASK_AT_FIRST)?;
-            reply(alloc, status, task.as_str())
+            reply(alloc, status, "", task.as_str())
         }
         ("flow", words) => {
             let flow = filled(alloc, FLOW, words, &FLOW_AT_FIRST)?;
             let flow = flow.as_str().replace(alloc, "<tasks>", tasks)?;
-            reply(alloc, status, flow.as_str())
+            reply(alloc, status, "", flow.as_str())
         }
-        _ => reply(alloc, status, body),
+        _ => reply(alloc, status, "", body),
     }
 }
 

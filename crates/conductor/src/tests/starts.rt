@@ -124,7 +124,7 @@ GET /api/workflow/<F1>
 # an input nests at most 64 deep
 <ONE>
 POST /api/workflow/one {"a":[[<LISTS>]]}
-= NOT_BUILT
+= TOO_DEEP
 POST /api/workflow/one {"a":[<LISTS>]}
 = 200 <F1>
 GET /api/workflow/<F1>

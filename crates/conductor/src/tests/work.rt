@@ -170,7 +170,7 @@ GET /api/workflow/<F1>
 POST /api/workflow/one {}
 = 200 <F1>
 POST /api/tasks {"workflowInstanceId":"<F1>","taskId":"<T1>","status":"COMPLETED","outputData":{"a":[<LISTS>]}}
-= NOT_BUILT
+= TOO_DEEP
 POST /api/tasks {"workflowInstanceId":"<F1>","taskId":"<T1>","status":"COMPLETED","outputData":{"a":<LISTS>}}
 = 200 <T1>
 GET /api/workflow/<F1>

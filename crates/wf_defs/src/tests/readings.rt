@@ -47,6 +47,8 @@ const NODES: &str = r#"
 0 l l false 0 {} DO_WHILE -4 [1:f 3:j ]; 4 u u false 0 {} SUB_WORKFLOW child 0; end
 {"name":"w","tasks":[{"name":"s","taskReferenceName":"s","type":"SWITCH","evaluatorType":"value-param","expression":"k","inputParameters":{"k":null}},{"name":"x","taskReferenceName":"x"}]}
 0 s s false 0 {"k":null} SWITCH k else[]; 1 x x false 0 {} SIMPLE; end
+{"name":"w","tasks":[{"name":"s","taskReferenceName":"s","type":"SWITCH","evaluatorType":"value-param","expression":"k","inputParameters":{"k":""},"decisionCases":{"":[{"name":"x","taskReferenceName":"e"}]},"defaultCase":[{"name":"x","taskReferenceName":"d"}]},{"name":"x","taskReferenceName":"x"}]}
+0 s s false 0 {"k":""} SWITCH k [1:e ] else[2:d ]; 3 x x false 0 {} SIMPLE; end
 "#;
 
 #[test]

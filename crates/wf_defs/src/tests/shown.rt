@@ -81,9 +81,9 @@ pub fn show_nodes(alloc: Global, nodes: &[Node]) -> Result<String, Fail> {
 }
 
 /// The nodes of an inner list: their indexes and references.
-fn show_inner(alloc: Global, nodes: &Items<Node>, made: &mut String) -> Result<(), Fail> {
+fn show_inner(alloc: Global, nodes: &[Node], made: &mut String) -> Result<(), Fail> {
     made.push_str("[")?;
-    for node in nodes.as_slice() {
+    for node in nodes {
         let text = format!(in alloc; "{}:{} ", node.index, node.reference.as_str())?;
         made.push_str(text.as_str())?;
     }
@@ -108,22 +108,28 @@ fn show_kind(alloc: Global, kind: &NodeKind) -> Result<String, Fail> {
     }
 }
 
+/// Each case by its key, as a text that is its key chooses it, and what the text `no case` chooses.
 fn show_choice(alloc: Global, choice: &Cases) -> Result<String, Fail> {
-    let mut made = format!(in alloc; "SWITCH {}", choice.param.as_str())?;
-    for case in choice.cases.as_slice() {
-        made.push_str(" ")?;
-        made.push_str(case.key.as_str())?;
-        show_inner(alloc, &case.nodes, &mut made)?;
+    let mut made = format!(in alloc; "SWITCH {}", choice.param())?;
+    for place in 0..choice.len() {
+        if let Some(case) = choice.at(place) {
+            made.push_str(" ")?;
+            made.push_str(case.key.as_str())?;
+            show_inner(alloc, choice.chosen(case.key.as_str()), &mut made)?;
+        }
     }
     made.push_str(" else")?;
-    show_inner(alloc, &choice.otherwise, &mut made)?;
+    show_inner(alloc, choice.chosen("no case"), &mut made)?;
+    if choice.default().len() != choice.chosen("no case").len() {
+        made.push_str(" and another default")?;
+    }
     Ok(made)
 }
 
 fn show_branches(alloc: Global, branches: &Items<Branch>) -> Result<String, Fail> {
     let mut made = String::from_str(alloc, "FORK_JOIN ")?;
     for branch in branches.as_slice() {
-        show_inner(alloc, &branch.nodes, &mut made)?;
+        show_inner(alloc, branch.nodes.as_slice(), &mut made)?;
     }
     Ok(made)
 }
@@ -142,6 +148,6 @@ fn show_loop(alloc: Global, count: &Count, nodes: &Items<Node>) -> Result<String
         Count::Number(times) => format!(in alloc; "DO_WHILE {times} ")?,
         Count::Param(key) => format!(in alloc; "DO_WHILE {} ", key.as_str())?,
     };
-    show_inner(alloc, nodes, &mut made)?;
+    show_inner(alloc, nodes.as_slice(), &mut made)?;
     Ok(made)
 }

@@ -1,2 +1,4 @@
+mod numbers;
 mod replies;
 mod requests;
+mod told;

@@ -1,69 +1,71 @@
 //! The bytes of replies.
 
-use crate::{print_fault, print_reply};
+use crate::{HttpFault, print_fault, print_reply};
+use std::alloc::Global;
+use std::process::Abort;
 use std::test::Fail;
-use wf_machine::{HttpFault, Reply};
+use wf_doc::Text;
+use wf_machine::Reply;
 use wf_names::{IdKind, Refusal};
+
+/// A fault's reply to a request that closes, but for its body.
+fn head_of(alloc: Global, line: &str, allow: &str, length: usize) -> Result<String, Fail> {
+    Ok(format!(in alloc;
+        "HTTP/1.1 {line}\r\n{allow}Connection: close\r\nContent-Type: application/json\r\nContent-Length: {length}\r\n\r\n"
+    )?)
+}
+
+fn assert_fault(
+    rt: &impl Abort,
+    alloc: Global,
+    fault: &HttpFault,
+    line: &str,
+    allow: &str,
+    body: &str,
+) -> Result<(), Fail> {
+    let mut want = head_of(alloc, line, allow, body.len())?;
+    let printed = print_fault(alloc, fault, true, true)?;
+    assert_eq!(rt; printed.as_str(), want.as_str());
+    want.push_str(body)?;
+    let printed = print_fault(alloc, fault, true, false)?;
+    assert_eq!(rt; printed.as_str(), want.as_str());
+    Ok(())
+}
 
 #[test]
 fn faults_are_printed(rt: HostRuntime) -> Result<(), Fail> {
     let alloc = rt.alloc();
-    for (fault, line, length, body) in [
-        (
-            HttpFault::BadFrame,
-            "HTTP/1.1 400 Bad Request",
-            "65",
-            r#"{"code":"BAD_FRAME","message":"not an HTTP message","status":400}"#,
-        ),
-        (
-            HttpFault::Coding,
-            "HTTP/1.1 501 Not Implemented",
-            "66",
-            r#"{"code":"CODING","message":"unknown transfer coding","status":501}"#,
-        ),
-        (
-            HttpFault::HeadTooLarge,
-            "HTTP/1.1 431 Request Header Fields Too Large",
-            "72",
-            r#"{"code":"HEAD_TOO_LARGE","message":"the head is too large","status":431}"#,
-        ),
-        (
-            HttpFault::BodyTooLarge,
-            "HTTP/1.1 413 Content Too Large",
-            "72",
-            r#"{"code":"BODY_TOO_LARGE","message":"the body is too large","status":413}"#,
-        ),
-        (
-            HttpFault::BadMoment,
-            "HTTP/1.1 400 Bad Request",
-            "72",
-            r#"{"code":"BAD_MOMENT","message":"Moment-Ms is not a moment","status":400}"#,
-        ),
-        (
-            HttpFault::NotBuilt,
-            "HTTP/1.1 501 Not Implemented",
-            "59",
-            r#"{"code":"NOT_BUILT","message":"not built yet","status":501}"#,
-        ),
-        (
-            HttpFault::NoMemory,
-            "HTTP/1.1 500 Internal Server Error",
-            "55",
-            r#"{"code":"NO_MEMORY","message":"no memory","status":500}"#,
-        ),
-    ] {
-        let mut want = String::from_str(alloc, line)?;
-        want.push_str("\r\nConnection: close\r\nContent-Type: application/json\r\n")?;
-        want.push_str("Content-Length: ")?;
-        want.push_str(length)?;
-        want.push_str("\r\n\r\n")?;
-        let printed = print_fault(alloc, fault, true, true)?;
-        assert_eq!(rt; printed.as_str(), want.as_str());
-        want.push_str(body)?;
-        let printed = print_fault(alloc, fault, true, false)?;
-        assert_eq!(rt; printed.as_str(), want.as_str());
-    }
-    Ok(())
+    let frame = r#"{"code":"BAD_FRAME","message":"not an HTTP message","status":400}"#;
+    assert_fault(
+        &rt,
+        alloc,
+        &HttpFault::BadFrame,
+        "400 Bad Request",
+        "",
+        frame,
+    )?;
+    let store = r#"{"code":"STORE_FAULT","message":"the store failed","status":503}"#;
+    assert_fault(
+        &rt,
+        alloc,
+        &HttpFault::StoreFault,
+        "503 Service Unavailable",
+        "",
+        store,
+    )?;
+    let method = r#"{"code":"BAD_METHOD","message":"no such method here","status":405}"#;
+    let fault = HttpFault::BadMethod(Text::new(alloc, "GET, PUT")?);
+    assert_fault(
+        &rt,
+        alloc,
+        &fault,
+        "405 Method Not Allowed",
+        "Allow: GET, PUT\r\n",
+        method,
+    )?;
+    let definition = r#"{"code":"BAD_DEFINITION","message":"rule 7 at [1].tasks","status":400}"#;
+    let fault = HttpFault::BadDefinition(7, Text::new(alloc, "[1].tasks")?);
+    assert_fault(&rt, alloc, &fault, "400 Bad Request", "", definition)
 }
 
 #[test]

@@ -1,4 +1,4 @@
-use Rattle.std.proofs.Common.{◌≡◌, ◌+◌, ◌^◌, ◌≤◌}
+use Rattle.std.proofs.Common.{◌≡◌, ◌+◌, ◌≤◌}
 use Rattle.std.specs.Vec.Iter.{into_iter_items}
 use Rattle.wf_machine.specs.Plans.{CanMakeAll, new_tasks, turn_at}
 use Rattle.wf_machine.specs.Rules.{is_running, made}

@@ -1,4 +1,4 @@
-use Rattle.std.proofs.Common.{◌≡◌, ◌+◌, ◌*◌, [], max, sym, subst, ap, ◌∙◌, arith}
+use Rattle.std.proofs.Common.{◌≡◌, ◌+◌, ◌*◌, max, subst, ap, ◌∙◌, arith}
 use Rattle.wf_machine.specs.Plans.{plan, planned, turn_at}
 use Rattle.wf_machine.specs.Records.{Held}
 use Rattle.wf_machine.specs.Rules.{rules_at_most}
@@ -12,7 +12,7 @@ use Rattle.wf_decide.proofs.planning.plan_beside.Goals.{else-rules-test, then-ru
 pub rules-preserved : goal.rules-preserved
 rules-preserved c =
     let limits = c.args.limits.now in
-    let scene : Scene = record { task_defs = c.args.task_defs.now } in
+    let scene : Scene = record { mark = c.args.mark; task_defs = c.args.task_defs.now } in
     let rule = subst (Held (IsRuleMade limits scene c.args.moment c.rules.decided.flow c.rules.next c.plan_rule.new.decided.flow c.rules.acts.items c.plan_rule.new.acts.items))
     c.in-Some.is c.in_ok-plan_rule.ensures.some in
     planning_more limits scene c.args.moment c.args.flow.now.flow c.args.next_task
@@ -24,7 +24,7 @@ pub returns-clause-plan : goal.returns-clause-plan
 unfolding plan
 returns-clause-plan c =
     let limits = c.args.limits.now in
-    let scene : Scene = record { task_defs = c.args.task_defs.now } in
+    let scene : Scene = record { mark = c.args.mark; task_defs = c.args.task_defs.now } in
     let t = turn_at c.rules.decided.flow c.rules.next in
     let start = turn_at c.args.flow.now.flow c.args.next_task in
     let whole = planned limits scene c.args.moment (6 * c.max.result + 2) start in

@@ -1,6 +1,6 @@
 use Rattle.std.proofs.Common.{◌≡◌, drop, map}
 use Rattle.std.specs.List.{list_all}
-use Rattle.wf_defs.specs.Fields.{is_among}
+use Rattle.wf_fields.specs.Fields.{is_among}
 use Rattle.wf_defs.specs.NodeRules.{last_reference, text_of}
 use Rattle.wf_defs.proofs.node_rules.are_last.Given as goal
 

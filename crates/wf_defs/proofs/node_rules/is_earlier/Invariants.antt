@@ -1,5 +1,5 @@
 use Rattle.std.proofs.Common.{◌≡◌, drop}
-use Rattle.wf_defs.specs.Fields.{is_among}
+use Rattle.wf_fields.specs.Fields.{is_among}
 use Rattle.wf_defs.proofs.node_rules.is_earlier.Given as goal
 
 abbrev pub invariant-loop-other : goal.invariant-loop-other

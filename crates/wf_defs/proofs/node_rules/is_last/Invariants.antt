@@ -1,5 +1,5 @@
 use Rattle.std.proofs.Common.{◌≡◌, drop, map}
-use Rattle.wf_defs.specs.Fields.{is_among}
+use Rattle.wf_fields.specs.Fields.{is_among}
 use Rattle.wf_defs.specs.NodeRules.{last_reference}
 use Rattle.wf_defs.proofs.node_rules.is_last.Given as goal
 

@@ -1,4 +1,4 @@
-use Rattle.std.proofs.Common.{◌≡◌, ◌≤◌, length, ℕ, reverse}
+use Rattle.std.proofs.Common.{◌≡◌, ◌≤◌, length, reverse}
 use Rattle.wf_machine.specs.Calls.{with_task_defs}
 use Rattle.wf_kept.proofs.tasks.register_tasks.Given as goal
 

@@ -9,7 +9,7 @@ use Rattle.wf_core.proofs.steps.Core.decide.Goals as goal
 
 pub returns-clause-decided : goal.returns-clause-decided
 returns-clause-decided c =
-    let scene : Scene = record { task_defs = c.as_slice.result.now } in
+    let scene : Scene = record { mark = c.self.inside.mark; task_defs = c.as_slice.result.now } in
     let next = c.next_task-next_task.result in
     let start : Turn = turn_at c.args.flow.now.flow next in
     let run : turn_at c.apply.new.flow.flow c.apply.result ≡ decide c.self.inside.limits scene c.args.moment start =

@@ -1,4 +1,4 @@
-use Rattle.std.proofs.Common.{◌∙◌, sym, ap}
+use Rattle.std.proofs.Common.{◌∙◌}
 use Rattle.wf_kept.proofs.FlowLemmas.{found_kept}
 use Rattle.wf_kept.proofs.IndexLemmas.{flow_placed}
 use Rattle.wf_kept.proofs.flows.KeptFlows.flow_of_task.Goals as goal

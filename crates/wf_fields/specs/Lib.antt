@@ -1,0 +1,2 @@
+-- The fields of tables, and the forms of their values.
+pub mod Fields
