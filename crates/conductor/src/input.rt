@@ -1,6 +1,6 @@
 //! Inputs that are read whole.
 
-ghost use Rattle.std.specs.Prelude.{◌≡◌, ◌<◌, ◌≤◌, length};
+ghost use Rattle.std.specs.Prelude.{◌≡◌, ◌<◌, ◌≤◌, length, min};
 ghost use Rattle.wf_wire.specs.Stream.{Rose};
 ghost use Rattle.conductor.specs.Inputs.{IsFill, IsInput, Told};
 
@@ -34,9 +34,7 @@ pub enum Input {
 /// How many bytes a read asks for, where at most so many may come.
 fn asked(most: usize) -> usize
     requires { 0 < most }
-    ensures most { result ≤ most }
-    ensures within { result ≤ 4096 }
-    ensures some { 0 < result }
+    ensures { result ≡ min most 4096 }
 {
     most.min(READ)
 }

@@ -16,6 +16,8 @@ mod registrations;
 mod running;
 mod starts;
 mod steps;
+#[cfg(test)]
+mod tests;
 mod updates;
 
 pub use change::{Change, Touched};

@@ -1,5 +1,12 @@
 //! What texts name in a flow with a node in a loop. Expected values are worked out by hand.
 
+ghost use Rattle.std.specs.Prelude.{◌≡◌, ◌^◌, ◌<◌, [], IfOk};
+ghost use Rattle.wf_doc.specs.declared.doc.Doc.TheVariants.{Null};
+ghost use Rattle.wf_names.specs.declared.statuses.FlowStatus.TheVariants.{Running};
+ghost use Rattle.wf_names.specs.declared.statuses.TaskStatus.TheVariants.{Skipped};
+ghost use Rattle.wf_machine.specs.State.{new_attempt};
+
+use crate::attempt::Attempt;
 use crate::flow::Flow;
 use crate::naming::node_named;
 use crate::no_memory::NoMemory;
@@ -8,7 +15,7 @@ use std::alloc::Global;
 use std::test::Fail;
 use wf_doc::{Doc, Items, Text};
 use wf_machine::{Count, FlowDef, Node, NodeKind};
-use wf_names::{FlowNo, TaskNo};
+use wf_names::{FlowNo, TaskNo, TaskStatus};
 
 fn node(alloc: Global, index: u32, reference: &str, kind: NodeKind) -> Result<Node, NoMemory> {
     Ok(Node {
@@ -78,7 +85,10 @@ fn the_loop_itself_stands_in_none(rt: HostRuntime) -> Result<(), Fail> {
     Ok(())
 }
 
-fn new_flow(alloc: Global) -> Result<Flow, NoMemory> {
+fn new_flow(alloc: Global) -> Result<Flow, NoMemory>
+    ensures attempts { IfOk result (λ flow. flow.flow.attempts ≡ []) }
+    ensures status { IfOk result (λ flow. flow.flow.status ≡ Running) }
+{
     let name = Text::new(alloc, "order")?;
     let nodes = looping(alloc)?;
     let correlation = Text::new(alloc, "c1")?;
@@ -107,5 +117,38 @@ fn a_node_without_attempts_names_none(rt: HostRuntime) -> Result<(), Fail> {
     assert_eq!(rt; number_named(&flow, "in__1"), None);
     assert_eq!(rt; number_named(&flow, "out"), None);
     assert!(rt; flow.latest_attempt(1).is_none());
+    Ok(())
+}
+
+/// An attempt at the node `in`, which was skipped in that turn.
+fn skipped(alloc: Global, number: TaskNo, turn: u32) -> Attempt
+    requires { number.0 < 2 ^ 56 }
+    ensures { result ≡ new_attempt number 1 turn Skipped Null 90 }
+{
+    Attempt::new(alloc, number, 1, turn, TaskStatus::Skipped, Doc::Null, 90)
+}
+
+/// A flow with an attempt in turn 2 of the loop, and one behind it in turn 1.
+fn turned(alloc: Global) -> Result<Flow, NoMemory> {
+    let mut flow = new_flow(alloc)?;
+    flow.reserve(2)?;
+    flow.is_record();
+    flow.add(skipped(alloc, TaskNo(4), 2));
+    flow.is_record();
+    flow.add(skipped(alloc, TaskNo(5), 1));
+    Ok(flow)
+}
+
+#[test]
+fn a_reference_in_a_loop_names_the_latest_turn(rt: HostRuntime) -> Result<(), Fail> {
+    let flow = turned(rt.alloc())?;
+    assert_eq!(rt; number_named(&flow, "in"), Some(TaskNo(4)));
+    assert_eq!(rt; number_named(&flow, "in__1"), Some(TaskNo(5)));
+    assert_eq!(rt; number_named(&flow, "in__2"), Some(TaskNo(4)));
+    assert_eq!(rt; number_named(&flow, "in__3"), None);
+    assert_eq!(rt;
+        flow.latest_attempt(1).map(|attempt| attempt.number()),
+        Some(TaskNo(4))
+    );
     Ok(())
 }
