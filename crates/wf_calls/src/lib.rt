@@ -5,8 +5,6 @@ mod entries;
 mod flows;
 mod no_memory;
 mod tasks;
-#[cfg(test)]
-mod tests;
 
 pub use flows::flow_document;
 pub use no_memory::NoMemory;

@@ -16,8 +16,6 @@ mod registrations;
 mod running;
 mod starts;
 mod steps;
-#[cfg(test)]
-mod tests;
 mod updates;
 
 pub use change::{Change, Touched};

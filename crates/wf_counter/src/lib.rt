@@ -6,8 +6,6 @@
 mod counter;
 mod counting;
 mod fault;
-#[cfg(test)]
-mod tests;
 mod threads;
 
 pub use counter::{Addition, Counter};

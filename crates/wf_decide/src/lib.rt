@@ -11,11 +11,7 @@ mod planned;
 mod planning;
 mod rules;
 mod scope;
-#[cfg(test)]
-mod template_tests;
 mod templates;
-#[cfg(test)]
-mod tests;
 
 pub use making::apply;
 pub use no_memory::NoMemory;

@@ -16,8 +16,6 @@ mod nodes;
 mod several;
 mod task_reading;
 mod task_rules;
-#[cfg(test)]
-mod tests;
 
 pub use faults::DefFault;
 pub use flow_reading::read_flowdef;

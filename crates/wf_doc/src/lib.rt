@@ -16,8 +16,6 @@ mod print_size;
 mod printing;
 mod reading;
 mod scan;
-#[cfg(test)]
-mod tests;
 mod text;
 
 pub use doc::{Doc, copy, depth};

@@ -12,8 +12,6 @@ mod filling;
 pub mod laws;
 mod room;
 mod scope;
-#[cfg(test)]
-mod tests;
 mod value_text;
 
 pub use fault::FillFault;

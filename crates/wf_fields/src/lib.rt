@@ -2,8 +2,6 @@
 #![tactic(auto)]
 
 mod fields;
-#[cfg(test)]
-mod tests;
 
 pub use fields::{
     Form, as_count, as_whole, first_misformed, first_misnumbered, given, has_form, is_absent,

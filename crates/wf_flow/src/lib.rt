@@ -11,12 +11,8 @@ mod finding;
 mod flow;
 mod lasting;
 mod naming;
-#[cfg(test)]
-mod naming_tests;
 mod no_memory;
 mod nodes;
-#[cfg(test)]
-mod tests;
 mod turns;
 
 pub use attempt::Attempt;

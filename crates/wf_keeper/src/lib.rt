@@ -14,8 +14,6 @@ mod no_memory;
 mod row;
 mod row_key;
 mod tables;
-#[cfg(test)]
-mod tests;
 
 pub use batch::Batch;
 pub use change::Change;

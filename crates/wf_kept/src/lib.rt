@@ -13,8 +13,6 @@ mod no_memory;
 mod registry;
 mod roomy;
 mod tasks;
-#[cfg(test)]
-mod tests;
 
 pub use flows::KeptFlows;
 pub use hands::HandBook;

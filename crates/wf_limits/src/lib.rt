@@ -9,11 +9,9 @@ mod hand;
 mod hands;
 mod limits;
 mod no_memory;
-#[cfg(test)]
 mod plain;
-#[cfg(test)]
-mod tests;
 
 pub use hands::{Hands, Moments};
 pub use limits::TaskLimits;
 pub use no_memory::NoMemory;
+pub use plain::PlainHands;

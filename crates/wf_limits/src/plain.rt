@@ -12,7 +12,7 @@ use std::alloc::Global;
 use std::marker::Model;
 
 #[derive(Drop)]
-pub(crate) struct PlainHand {
+struct PlainHand {
     name: Vec<u8>,
     noted: Vec<u64>,
     running: u64,
@@ -88,8 +88,10 @@ impl PlainHand {
     }
 }
 
+/// The plain version of [`Hands`](crate::Hands): lists that are scanned from their fronts.
+/// It meets the same clauses, and takes memory where it grows.
 #[derive(Drop)]
-pub(crate) struct PlainHands {
+pub struct PlainHands {
     hands: Vec<PlainHand>,
 }
 
@@ -103,7 +105,7 @@ impl Model for PlainHands {
 }
 
 impl PlainHands {
-    pub(crate) fn new(alloc: Global) -> PlainHands
+    pub fn new(alloc: Global) -> PlainHands
         ensures { result ≡ [] }
     {
         PlainHands {
@@ -111,7 +113,7 @@ impl PlainHands {
         }
     }
 
-    pub(crate) fn reserve(&mut self, alloc: Global, name: &[u8]) -> Result<(), NoMemory>
+    pub fn reserve(&mut self, alloc: Global, name: &[u8]) -> Result<(), NoMemory>
         ensures ok { OnOk result (ChangesOnly self.old self.new name.now (moments_of self.old name.now) (count_of self.old name.now)) }
         ensures err { OnErr result (self.new ≡ self.old) }
     {
@@ -125,7 +127,7 @@ impl PlainHands {
         }
     }
 
-    pub(crate) fn note(&mut self, name: &[u8], moment: u64) -> Result<(), NoMemory>
+    pub fn note(&mut self, name: &[u8], moment: u64) -> Result<(), NoMemory>
         requires { IsReserved self.old name.now }
         ensures { OnOk result (ChangesOnly self.old self.new name.now (keep_last 1000 (moments_of self.old name.now ++ moment ∷ [])) (count_of self.old name.now)) }
     {
@@ -136,7 +138,7 @@ impl PlainHands {
         Ok(())
     }
 
-    pub(crate) fn enter(&mut self, name: &[u8])
+    pub fn enter(&mut self, name: &[u8])
         requires reserved { IsReserved self.old name.now }
         requires room { count_of self.old name.now < 2 ^ 56 }
         ensures { ChangesOnly self.old self.new name.now (moments_of self.old name.now) (count_of self.old name.now + 1) }
@@ -147,7 +149,7 @@ impl PlainHands {
         self.hands[place].enter();
     }
 
-    pub(crate) fn leave(&mut self, name: &[u8])
+    pub fn leave(&mut self, name: &[u8])
         requires { 0 < count_of self.old name.now }
         ensures { ChangesOnly self.old self.new name.now (moments_of self.old name.now) (count_of self.old name.now - 1) }
     {
@@ -157,7 +159,7 @@ impl PlainHands {
         self.hands[place].leave();
     }
 
-    pub(crate) fn admits(&self, name: &[u8], limits: &TaskLimits, moment: u64) -> bool
+    pub fn admits(&self, name: &[u8], limits: &TaskLimits, moment: u64) -> bool
         ensures { result ≡ is_admitted limits.now moment (moments_of self.now name.now) (count_of self.now name.now) }
     {
         match self.place(name) {

@@ -18,8 +18,6 @@ mod stands;
 mod steps;
 mod storing;
 mod table;
-#[cfg(test)]
-mod tests;
 mod turn;
 mod view;
 mod waits;

@@ -26,7 +26,7 @@ impl<T: Stands> HistoryLock<T> {
     }
 
     /// As `new`, with the first tickets used up.
-    pub(crate) fn with_ticket(
+    pub fn with_ticket(
         alloc: Global,
         value: T,
         ticket: u64,

@@ -12,6 +12,3 @@ pub mod statuses;
 pub use ids::{FlowNo, IdKind, TaskNo};
 pub use refusals::Refusal;
 pub use statuses::{FlowStatus, TaskStatus};
-
-#[cfg(test)]
-mod tests;

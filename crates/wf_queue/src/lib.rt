@@ -5,13 +5,11 @@
 #![tactic(auto)]
 
 mod no_memory;
-#[cfg(test)]
 mod plain;
 mod queue;
 mod queues;
-#[cfg(test)]
-mod tests;
 
 pub use no_memory::NoMemory;
+pub use plain::PlainQueues;
 pub use queues::Queues;
 pub use wf_sorted::Steps;

@@ -60,8 +60,10 @@ impl PlainItem {
     }
 }
 
+/// The plain version of [`Queues`](crate::Queues): one list in no order, which is scanned from its front.
+/// It meets the same clauses, and takes memory where it grows.
 #[derive(Drop)]
-pub(crate) struct PlainQueues {
+pub struct PlainQueues {
     items: Vec<PlainItem>,
 }
 
@@ -76,7 +78,7 @@ impl Model for PlainQueues {
 }
 
 impl PlainQueues {
-    pub(crate) fn new(alloc: Global) -> PlainQueues
+    pub fn new(alloc: Global) -> PlainQueues
         ensures { result ≡ [] }
     {
         PlainQueues {
@@ -84,7 +86,7 @@ impl PlainQueues {
         }
     }
 
-    pub(crate) fn add(
+    pub fn add(
         &mut self,
         alloc: Global,
         queue: &[u8],
@@ -103,7 +105,7 @@ impl PlainQueues {
         Ok(())
     }
 
-    pub(crate) fn take_out(&mut self, queue: &[u8], ready: u64, number: u64) -> bool
+    pub fn take_out(&mut self, queue: &[u8], ready: u64, number: u64) -> bool
         ensures there { result ≡ holds (record { moment = ready; number = number }) (waiting queue.now self.old) }
         ensures waiting { waiting queue.now self.new ≡ without (record { moment = ready; number = number }) (waiting queue.now self.old) }
         ensures others { (name : List ℕ) → name ≢ queue.now → waiting name self.new ≡ waiting name self.old }
@@ -119,13 +121,13 @@ impl PlainQueues {
         true
     }
 
-    pub(crate) fn size(&self, queue: &[u8]) -> u64
+    pub fn size(&self, queue: &[u8]) -> u64
         ensures { result ≡ length (waiting queue.now self.now) }
     {
         count(&self.items, queue) as u64
     }
 
-    pub(crate) fn first_ready(&self, queue: &[u8], moment: u64) -> Option<u64>
+    pub fn first_ready(&self, queue: &[u8], moment: u64) -> Option<u64>
         ensures value { result ≡ first_ready moment (waiting queue.now self.now) }
     {
         let first = least_ready(&self.items, queue, moment)?;

@@ -17,8 +17,6 @@ mod response;
 mod routed;
 mod starts;
 mod targets;
-#[cfg(test)]
-mod tests;
 mod updates;
 
 pub use faulting::HttpFault;

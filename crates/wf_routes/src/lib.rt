@@ -14,6 +14,3 @@ pub use query::Query;
 pub use routes::Routes;
 pub use table::{Call, Method, Path, Route, Row};
 pub use target::{decode_parameter, segment, split_target};
-
-#[cfg(test)]
-mod tests;

@@ -11,8 +11,6 @@ mod no_memory;
 mod pool;
 mod sorted;
 mod steps;
-#[cfg(test)]
-mod tests;
 
 pub use entry::Entry;
 pub use no_memory::NoMemory;

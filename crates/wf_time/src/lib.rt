@@ -6,8 +6,6 @@
 mod deadlines;
 mod delay;
 mod durations;
-#[cfg(test)]
-mod tests;
 
 pub use deadlines::deadline;
 pub use delay::retry_delay;

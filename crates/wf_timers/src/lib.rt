@@ -8,11 +8,9 @@ mod agenda;
 mod deadlines;
 mod marks;
 mod no_memory;
-#[cfg(test)]
 mod plain;
-#[cfg(test)]
-mod tests;
 
 pub use agenda::Agenda;
 pub use no_memory::NoMemory;
+pub use plain::PlainAgenda;
 pub use wf_sorted::Steps;

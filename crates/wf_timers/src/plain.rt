@@ -9,8 +9,10 @@ use std::alloc::Global;
 use std::marker::Model;
 use wf_sorted::Entry;
 
+/// The plain version of [`Agenda`](crate::Agenda): lists that are scanned from their fronts.
+/// It meets the same clauses, and takes memory where it grows.
 #[derive(Drop)]
-pub(crate) struct PlainAgenda {
+pub struct PlainAgenda {
     marks: Vec<u64>,
     deadlines: Vec<Entry>,
 }
@@ -28,7 +30,7 @@ impl Model for PlainAgenda {
 }
 
 impl PlainAgenda {
-    pub(crate) fn new(alloc: Global) -> PlainAgenda
+    pub fn new(alloc: Global) -> PlainAgenda
         ensures marks { result.marks ≡ [] }
         ensures deadlines { result.deadlines ≡ [] }
     {
@@ -38,7 +40,7 @@ impl PlainAgenda {
         }
     }
 
-    pub(crate) fn mark(&mut self, number: u64) -> Result<(), NoMemory>
+    pub fn mark(&mut self, number: u64) -> Result<(), NoMemory>
         ensures marked { OnOk result ((n : ℕ) → is_marked n self.new.marks ≡ ((number == n) || is_marked n self.old.marks)) }
         ensures deadlines { self.new.deadlines ≡ self.old.deadlines }
     {
@@ -46,18 +48,14 @@ impl PlainAgenda {
         Ok(())
     }
 
-    pub(crate) fn unmark(&mut self, number: u64)
+    pub fn unmark(&mut self, number: u64)
         ensures marks { self.new.marks ≡ without_mark number self.old.marks }
         ensures deadlines { self.new.deadlines ≡ self.old.deadlines }
     {
         self.marks.retain(|mark| *mark != number);
     }
 
-    pub(crate) fn set_deadline(
-        &mut self,
-        number: u64,
-        deadline: Option<u64>,
-    ) -> Result<(), NoMemory>
+    pub fn set_deadline(&mut self, number: u64, deadline: Option<u64>) -> Result<(), NoMemory>
         ensures each { OnOk result ((n : ℕ) → deadline_of n self.new.deadlines ≡ (if number == n then deadline else deadline_of n self.old.deadlines)) }
         ensures marks { self.new.marks ≡ self.old.marks }
     {
@@ -68,7 +66,7 @@ impl PlainAgenda {
         Ok(())
     }
 
-    pub(crate) fn least_due(&self, moment: u64) -> Option<u64>
+    pub fn least_due(&self, moment: u64) -> Option<u64>
         ensures value { IsLeastDue moment self.now result }
     {
         let marked = least_mark(&self.marks);

@@ -7,8 +7,6 @@ pub mod laws;
 mod marking;
 mod next;
 mod step;
-#[cfg(test)]
-mod tests;
 
 pub use marking::mark;
 pub use next::next_node;

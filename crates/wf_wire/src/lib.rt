@@ -36,6 +36,3 @@ pub use memory::{MemorySink, MemorySource};
 pub use message::Message;
 pub use sink::{Sink, write_all};
 pub use source::Source;
-
-#[cfg(test)]
-mod tests;

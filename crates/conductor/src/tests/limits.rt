@@ -1,474 +1,496 @@
-//! The machine under small limits, and calls of it that no request is yet.
+//! The machine under small limits.
 
-ghost use Rattle.std.specs.Prelude.{◌≤◌, IfOk};
+ghost use Rattle.std.specs.Prelude.{IfOk};
 ghost use Rattle.wf_machine.specs.Replies.{IsPrintable};
 
-use crate::tests::scripts::{cut_line, written};
 use std::alloc::Global;
 use std::process::Abort;
 use std::test::Fail;
 use wf_core::Core;
-use wf_doc::{Doc, Fields, Text};
-use wf_machine::{Call, Reply, TaskResult};
-use wf_names::{IdKind, Refusal, TaskNo, TaskStatus};
+use wf_machine::Reply;
 use wf_rest::{Routes, moment_of, print_reply, read_call};
 use wf_wire::{Limits, MemorySource, Message, all_messages};
 
 /// The last moment that there is, in milliseconds.
 const LAST_MOMENT: u64 = 9_007_199_254_740_991;
 
-/// Scripts, each behind a line `# NAME` and a line with the limits that aren't the standard ones. The requests are read under
-/// the standard ones.
-const SCRIPTS: &str = r#"
-# a full store takes no start, and a flow that has ended is kept
-flows=1
-<ONE>
+/// The limits that are made small: kept flows, attempts of a flow, and the depth and the printed bytes of a document.
+#[derive(Clone, Copy)]
+struct Small {
+    flows: u32,
+    attempts: u32,
+    depth: u32,
+    document: u32,
+}
+
+const STANDARD: Small = Small {
+    flows: 20_000,
+    attempts: 4_096,
+    depth: 64,
+    document: 1_048_576,
+};
+
+/// Limits, and what is asked and answered under them. A request has its method, its target, its moment behind `@` and perhaps
+/// a body; it is read under the standard limits. The line behind it is `= `, the status of the reply and its body.
+const RUNS: [(Small, &str); 17] = [
+    // A full store takes no start, and a flow that has ended is kept.
+    (
+        Small {
+            flows: 1,
+            ..STANDARD
+        },
+        r#"
+POST /api/metadata/taskdefs @0 [{"name":"pick"}]
+= 200
+POST /api/metadata/workflow @0 {"name":"one","tasks":[{"name":"pick","taskReferenceName":"a"}]}
+= 200
 POST /api/workflow/one @1000 {}
-= 200 <F1>
+= 200 00000001-0100-8000-8000-000000000001
 POST /api/workflow/one @9000 {}
-= STORE_FULL
-POST /api/tasks @2000 {"workflowInstanceId":"<F1>","taskId":"<T1>","status":"COMPLETED","outputData":{}}
-= 200 <T1>
+= 409 {"code":"STORE_FULL","message":"the store is full","status":409}
+POST /api/tasks @2000 {"workflowInstanceId":"00000001-0100-8000-8000-000000000001","taskId":"00000001-0200-8000-8000-000000000001","status":"COMPLETED","outputData":{}}
+= 200 00000001-0200-8000-8000-000000000001
 POST /api/workflow/one @9000 {}
-= STORE_FULL
-GET /api/workflow/<F1>
-+ scheduledTime=1000, endTime=2000, updateTime=2000, status=COMPLETED
-= 200 flow createTime=1000, startTime=1000, endTime=2000, status=COMPLETED, workflowName=one
-GET /api/workflow/<F2>
-= NOT_FOUND
+= 409 {"code":"STORE_FULL","message":"the store is full","status":409}
+GET /api/workflow/00000001-0100-8000-8000-000000000001 @9000
+= 200 {"correlationId":"","createTime":1000,"endTime":2000,"input":{},"output":{},"reasonForIncompletion":"","startTime":1000,"status":"COMPLETED","tasks":[{"callbackAfterSeconds":0,"endTime":2000,"inputData":{},"iteration":0,"outputData":{},"pollCount":0,"reasonForIncompletion":"","referenceTaskName":"a","retryCount":0,"scheduledTime":1000,"startTime":0,"status":"COMPLETED","taskDefName":"pick","taskId":"00000001-0200-8000-8000-000000000001","taskType":"pick","updateTime":2000,"workerId":"","workflowInstanceId":"00000001-0100-8000-8000-000000000001"}],"variables":{},"workflowId":"00000001-0100-8000-8000-000000000001","workflowName":"one","workflowVersion":1}
+GET /api/workflow/00000001-0100-8000-8000-000000000002 @9000
+= 404 {"code":"NOT_FOUND","message":"no such thing","status":404}
 POST /api/metadata/taskdefs @3000 [{"name":"pack"}]
 = 200
-
-# no flow at all
-flows=0
-<ONE>
-POST /api/workflow/none {}
-= NOT_FOUND
-POST /api/workflow/one {}
-= STORE_FULL
-
-# a start is refused first for its name, then for the store, then for its input
-flows=2, document=9
-<ONE>
+"#,
+    ),
+    // No flow at all.
+    (
+        Small {
+            flows: 0,
+            ..STANDARD
+        },
+        r#"
+POST /api/metadata/taskdefs @0 [{"name":"pick"}]
+= 200
+POST /api/metadata/workflow @0 {"name":"one","tasks":[{"name":"pick","taskReferenceName":"a"}]}
+= 200
+POST /api/workflow/none @0 {}
+= 404 {"code":"NOT_FOUND","message":"no such thing","status":404}
+POST /api/workflow/one @0 {}
+= 409 {"code":"STORE_FULL","message":"the store is full","status":409}
+"#,
+    ),
+    // A start is refused first for its name, then for the store, then for its input.
+    (
+        Small {
+            flows: 2,
+            document: 9,
+            ..STANDARD
+        },
+        r#"
+POST /api/metadata/taskdefs @0 [{"name":"pick"}]
+= 200
+POST /api/metadata/workflow @0 {"name":"one","tasks":[{"name":"pick","taskReferenceName":"a"}]}
+= 200
 POST /api/workflow/none @9000 {"n":1234}
-= NOT_FOUND
+= 404 {"code":"NOT_FOUND","message":"no such thing","status":404}
 POST /api/workflow/one @9000 {"n":1234}
-= DOCUMENT_LIMIT
+= 409 {"code":"DOCUMENT_LIMIT","message":"the document is too large","status":409}
 POST /api/workflow/one @9000 { "n" : 1234 }
-= DOCUMENT_LIMIT
+= 409 {"code":"DOCUMENT_LIMIT","message":"the document is too large","status":409}
 POST /api/workflow/one @1000  { "n" : 123 }
-= 200 <F1>
+= 200 00000001-0100-8000-8000-000000000001
 POST /api/workflow/one @1000 {"n":321}
-= 200 <F2>
+= 200 00000001-0100-8000-8000-000000000002
 POST /api/workflow/none @9000 {"n":1234}
-= NOT_FOUND
+= 404 {"code":"NOT_FOUND","message":"no such thing","status":404}
 POST /api/workflow/one @9000 {"n":1234}
-= STORE_FULL
-GET /api/workflow/<F1>
-+ scheduledTime=1000, updateTime=1000
-= 200 flow createTime=1000, startTime=1000, input={"n":123}, workflowName=one
-
-# an input is measured in bytes of its text as it is printed
-document=10
-<ONE>
-POST /api/workflow/one {"é":"1"}
-= 200 <F1>
-POST /api/workflow/one {"éé":""}
-= DOCUMENT_LIMIT
-POST /api/workflow/one {"é":"é"}
-= DOCUMENT_LIMIT
-POST /api/workflow/one {"é":"\u0031"}
-= 200 <F2>
-POST /api/workflow/one {"a":"\n"}
-= 200 <F3>
-POST /api/workflow/one {"a":"\u000a"}
-= 200 <F4>
-POST /api/workflow/one {"a":"\u000a1"}
-= DOCUMENT_LIMIT
-POST /api/workflow/one {"a":"\u0001"}
-= DOCUMENT_LIMIT
-
-# a second attempt ends the flow at the limit of attempts
-attempts=1
-<ORDER>
+= 409 {"code":"STORE_FULL","message":"the store is full","status":409}
+GET /api/workflow/00000001-0100-8000-8000-000000000001 @9000
+= 200 {"correlationId":"","createTime":1000,"endTime":0,"input":{"n":123},"output":{},"reasonForIncompletion":"","startTime":1000,"status":"RUNNING","tasks":[{"callbackAfterSeconds":0,"endTime":0,"inputData":{},"iteration":0,"outputData":{},"pollCount":0,"reasonForIncompletion":"","referenceTaskName":"a","retryCount":0,"scheduledTime":1000,"startTime":0,"status":"SCHEDULED","taskDefName":"pick","taskId":"00000001-0200-8000-8000-000000000001","taskType":"pick","updateTime":1000,"workerId":"","workflowInstanceId":"00000001-0100-8000-8000-000000000001"}],"variables":{},"workflowId":"00000001-0100-8000-8000-000000000001","workflowName":"one","workflowVersion":1}
+"#,
+    ),
+    // An input is measured in bytes of its text as it is printed.
+    (
+        Small {
+            document: 10,
+            ..STANDARD
+        },
+        r#"
+POST /api/metadata/taskdefs @0 [{"name":"pick"}]
+= 200
+POST /api/metadata/workflow @0 {"name":"one","tasks":[{"name":"pick","taskReferenceName":"a"}]}
+= 200
+POST /api/workflow/one @0 {"é":"1"}
+= 200 00000001-0100-8000-8000-000000000001
+POST /api/workflow/one @0 {"éé":""}
+= 409 {"code":"DOCUMENT_LIMIT","message":"the document is too large","status":409}
+POST /api/workflow/one @0 {"é":"é"}
+= 409 {"code":"DOCUMENT_LIMIT","message":"the document is too large","status":409}
+POST /api/workflow/one @0 {"é":"\u0031"}
+= 200 00000001-0100-8000-8000-000000000002
+POST /api/workflow/one @0 {"a":"\n"}
+= 200 00000001-0100-8000-8000-000000000003
+POST /api/workflow/one @0 {"a":"\u000a"}
+= 200 00000001-0100-8000-8000-000000000004
+POST /api/workflow/one @0 {"a":"\u000a1"}
+= 409 {"code":"DOCUMENT_LIMIT","message":"the document is too large","status":409}
+POST /api/workflow/one @0 {"a":"\u0001"}
+= 409 {"code":"DOCUMENT_LIMIT","message":"the document is too large","status":409}
+"#,
+    ),
+    // A second attempt ends the flow at the limit of attempts.
+    (
+        Small {
+            attempts: 1,
+            ..STANDARD
+        },
+        r#"
+POST /api/metadata/taskdefs @0 [{"name":"pick"},{"name":"pack"}]
+= 200
+POST /api/metadata/workflow @0 {"name":"order","tasks":[{"name":"pick","taskReferenceName":"a"},{"name":"pack","taskReferenceName":"b"}]}
+= 200
 POST /api/workflow/order @1000 {}
-= 200 <F1>
+= 200 00000001-0100-8000-8000-000000000001
 GET /api/tasks/poll/pick @2000
-= 200 task scheduledTime=1000, startTime=2000, updateTime=2000, pollCount=1, status=IN_PROGRESS
-POST /api/tasks @3000 {"workflowInstanceId":"<F1>","taskId":"<T1>","status":"COMPLETED","outputData":{"box":1}}
-= 200 <T1>
-GET /api/workflow/<F1>
-+ scheduledTime=1000, startTime=2000, endTime=3000, updateTime=3000, pollCount=1, status=COMPLETED, outputData={"box":1}
-= 200 flow createTime=1000, startTime=1000, endTime=3000, status=FAILED, reasonForIncompletion=attempt limit
+= 200 {"callbackAfterSeconds":0,"endTime":0,"inputData":{},"iteration":0,"outputData":{},"pollCount":1,"reasonForIncompletion":"","referenceTaskName":"a","retryCount":0,"scheduledTime":1000,"startTime":2000,"status":"IN_PROGRESS","taskDefName":"pick","taskId":"00000001-0200-8000-8000-000000000001","taskType":"pick","updateTime":2000,"workerId":"","workflowInstanceId":"00000001-0100-8000-8000-000000000001"}
+POST /api/tasks @3000 {"workflowInstanceId":"00000001-0100-8000-8000-000000000001","taskId":"00000001-0200-8000-8000-000000000001","status":"COMPLETED","outputData":{"box":1}}
+= 200 00000001-0200-8000-8000-000000000001
+GET /api/workflow/00000001-0100-8000-8000-000000000001 @3000
+= 200 {"correlationId":"","createTime":1000,"endTime":3000,"input":{},"output":{},"reasonForIncompletion":"attempt limit","startTime":1000,"status":"FAILED","tasks":[{"callbackAfterSeconds":0,"endTime":3000,"inputData":{},"iteration":0,"outputData":{"box":1},"pollCount":1,"reasonForIncompletion":"","referenceTaskName":"a","retryCount":0,"scheduledTime":1000,"startTime":2000,"status":"COMPLETED","taskDefName":"pick","taskId":"00000001-0200-8000-8000-000000000001","taskType":"pick","updateTime":3000,"workerId":"","workflowInstanceId":"00000001-0100-8000-8000-000000000001"}],"variables":{},"workflowId":"00000001-0100-8000-8000-000000000001","workflowName":"order","workflowVersion":1}
 GET /api/tasks/poll/pack @4000
 = 204
 POST /api/workflow/order @4000 {}
-= 200 <F2>
+= 200 00000001-0100-8000-8000-000000000002
 GET /api/tasks/poll/pick @4000
-= 200 task taskId=<T2>, workflowInstanceId=<F2>, scheduledTime=4000, startTime=4000, updateTime=4000, pollCount=1, status=IN_PROGRESS
-
-# a flow of as many attempts as there may be completes
-attempts=2
-<ORDER>
-POST /api/workflow/order {}
-= 200 <F1>
-POST /api/tasks {"workflowInstanceId":"<F1>","taskId":"<T1>","status":"COMPLETED","outputData":{}}
-= 200 <T1>
-POST /api/tasks {"workflowInstanceId":"<F1>","taskId":"<T2>","status":"COMPLETED","outputData":{}}
-= 200 <T2>
-GET /api/workflow/<F1>
-+ status=COMPLETED
-+ taskId=<T2>, taskDefName=pack, referenceTaskName=b, status=COMPLETED
-= 200 flow status=COMPLETED
-
-# no attempt at all
-attempts=0
-<ONE>
+= 200 {"callbackAfterSeconds":0,"endTime":0,"inputData":{},"iteration":0,"outputData":{},"pollCount":1,"reasonForIncompletion":"","referenceTaskName":"a","retryCount":0,"scheduledTime":4000,"startTime":4000,"status":"IN_PROGRESS","taskDefName":"pick","taskId":"00000001-0200-8000-8000-000000000002","taskType":"pick","updateTime":4000,"workerId":"","workflowInstanceId":"00000001-0100-8000-8000-000000000002"}
+"#,
+    ),
+    // A flow of as many attempts as there may be completes.
+    (
+        Small {
+            attempts: 2,
+            ..STANDARD
+        },
+        r#"
+POST /api/metadata/taskdefs @0 [{"name":"pick"},{"name":"pack"}]
+= 200
+POST /api/metadata/workflow @0 {"name":"order","tasks":[{"name":"pick","taskReferenceName":"a"},{"name":"pack","taskReferenceName":"b"}]}
+= 200
+POST /api/workflow/order @0 {}
+= 200 00000001-0100-8000-8000-000000000001
+POST /api/tasks @0 {"workflowInstanceId":"00000001-0100-8000-8000-000000000001","taskId":"00000001-0200-8000-8000-000000000001","status":"COMPLETED","outputData":{}}
+= 200 00000001-0200-8000-8000-000000000001
+POST /api/tasks @0 {"workflowInstanceId":"00000001-0100-8000-8000-000000000001","taskId":"00000001-0200-8000-8000-000000000002","status":"COMPLETED","outputData":{}}
+= 200 00000001-0200-8000-8000-000000000002
+GET /api/workflow/00000001-0100-8000-8000-000000000001 @0
+= 200 {"correlationId":"","createTime":0,"endTime":0,"input":{},"output":{},"reasonForIncompletion":"","startTime":0,"status":"COMPLETED","tasks":[{"callbackAfterSeconds":0,"endTime":0,"inputData":{},"iteration":0,"outputData":{},"pollCount":0,"reasonForIncompletion":"","referenceTaskName":"a","retryCount":0,"scheduledTime":0,"startTime":0,"status":"COMPLETED","taskDefName":"pick","taskId":"00000001-0200-8000-8000-000000000001","taskType":"pick","updateTime":0,"workerId":"","workflowInstanceId":"00000001-0100-8000-8000-000000000001"},{"callbackAfterSeconds":0,"endTime":0,"inputData":{},"iteration":0,"outputData":{},"pollCount":0,"reasonForIncompletion":"","referenceTaskName":"b","retryCount":0,"scheduledTime":0,"startTime":0,"status":"COMPLETED","taskDefName":"pack","taskId":"00000001-0200-8000-8000-000000000002","taskType":"pack","updateTime":0,"workerId":"","workflowInstanceId":"00000001-0100-8000-8000-000000000001"}],"variables":{},"workflowId":"00000001-0100-8000-8000-000000000001","workflowName":"order","workflowVersion":1}
+"#,
+    ),
+    // No attempt at all.
+    (
+        Small {
+            attempts: 0,
+            ..STANDARD
+        },
+        r#"
+POST /api/metadata/taskdefs @0 [{"name":"pick"}]
+= 200
+POST /api/metadata/workflow @0 {"name":"one","tasks":[{"name":"pick","taskReferenceName":"a"}]}
+= 200
 POST /api/workflow/one @1000 {"n":1}
-= 200 <F1>
-GET /api/workflow/<F1>
-= 200 flow createTime=1000, startTime=1000, endTime=1000, input={"n":1}, status=FAILED, reasonForIncompletion=attempt limit, workflowName=one
-
-# want of a registered task goes before the limit of attempts
-attempts=1
-POST /api/metadata/taskdefs [{"name":"pick"}]
+= 200 00000001-0100-8000-8000-000000000001
+GET /api/workflow/00000001-0100-8000-8000-000000000001 @1000
+= 200 {"correlationId":"","createTime":1000,"endTime":1000,"input":{"n":1},"output":{},"reasonForIncompletion":"attempt limit","startTime":1000,"status":"FAILED","tasks":[],"variables":{},"workflowId":"00000001-0100-8000-8000-000000000001","workflowName":"one","workflowVersion":1}
+"#,
+    ),
+    // Want of a registered task goes before the limit of attempts.
+    (
+        Small {
+            attempts: 1,
+            ..STANDARD
+        },
+        r#"
+POST /api/metadata/taskdefs @0 [{"name":"pick"}]
 = 200
-POST /api/metadata/workflow {"name":"order","tasks":[{"name":"pick","taskReferenceName":"a"},{"name":"pack","taskReferenceName":"b"}]}
+POST /api/metadata/workflow @0 {"name":"order","tasks":[{"name":"pick","taskReferenceName":"a"},{"name":"pack","taskReferenceName":"b"}]}
 = 200
 POST /api/workflow/order @1000 {}
-= 200 <F1>
-POST /api/tasks @2000 {"workflowInstanceId":"<F1>","taskId":"<T1>","status":"COMPLETED","outputData":{}}
-= 200 <T1>
-GET /api/workflow/<F1>
-+ scheduledTime=1000, endTime=2000, updateTime=2000, status=COMPLETED
-= 200 flow createTime=1000, startTime=1000, endTime=2000, status=FAILED, reasonForIncompletion=no task definition pack
-
-# want of a registered task goes before all limits
-attempts=0, depth=0, document=2
-POST /api/metadata/workflow {"name":"one","tasks":[{"name":"pick","taskReferenceName":"a"}]}
+= 200 00000001-0100-8000-8000-000000000001
+POST /api/tasks @2000 {"workflowInstanceId":"00000001-0100-8000-8000-000000000001","taskId":"00000001-0200-8000-8000-000000000001","status":"COMPLETED","outputData":{}}
+= 200 00000001-0200-8000-8000-000000000001
+GET /api/workflow/00000001-0100-8000-8000-000000000001 @2000
+= 200 {"correlationId":"","createTime":1000,"endTime":2000,"input":{},"output":{},"reasonForIncompletion":"no task definition pack","startTime":1000,"status":"FAILED","tasks":[{"callbackAfterSeconds":0,"endTime":2000,"inputData":{},"iteration":0,"outputData":{},"pollCount":0,"reasonForIncompletion":"","referenceTaskName":"a","retryCount":0,"scheduledTime":1000,"startTime":0,"status":"COMPLETED","taskDefName":"pick","taskId":"00000001-0200-8000-8000-000000000001","taskType":"pick","updateTime":2000,"workerId":"","workflowInstanceId":"00000001-0100-8000-8000-000000000001"}],"variables":{},"workflowId":"00000001-0100-8000-8000-000000000001","workflowName":"order","workflowVersion":1}
+"#,
+    ),
+    // Want of a registered task goes before all limits.
+    (
+        Small {
+            attempts: 0,
+            depth: 0,
+            document: 2,
+            ..STANDARD
+        },
+        r#"
+POST /api/metadata/workflow @0 {"name":"one","tasks":[{"name":"pick","taskReferenceName":"a"}]}
 = 200
-POST /api/workflow/one {}
-= 200 <F1>
-GET /api/workflow/<F1>
-= 200 flow status=FAILED, reasonForIncompletion=no task definition pick, workflowName=one
-
-# the limit of attempts goes before that of documents
-attempts=0, depth=0, document=2
-<ONE>
-POST /api/workflow/one {}
-= 200 <F1>
-GET /api/workflow/<F1>
-= 200 flow status=FAILED, reasonForIncompletion=attempt limit, workflowName=one
-
-# an input of a task that nests too deep ends the flow, and a start measures no depth
-depth=0
-<ONE>
+POST /api/workflow/one @0 {}
+= 200 00000001-0100-8000-8000-000000000001
+GET /api/workflow/00000001-0100-8000-8000-000000000001 @0
+= 200 {"correlationId":"","createTime":0,"endTime":0,"input":{},"output":{},"reasonForIncompletion":"no task definition pick","startTime":0,"status":"FAILED","tasks":[],"variables":{},"workflowId":"00000001-0100-8000-8000-000000000001","workflowName":"one","workflowVersion":1}
+"#,
+    ),
+    // The limit of attempts goes before that of documents.
+    (
+        Small {
+            attempts: 0,
+            depth: 0,
+            document: 2,
+            ..STANDARD
+        },
+        r#"
+POST /api/metadata/taskdefs @0 [{"name":"pick"}]
+= 200
+POST /api/metadata/workflow @0 {"name":"one","tasks":[{"name":"pick","taskReferenceName":"a"}]}
+= 200
+POST /api/workflow/one @0 {}
+= 200 00000001-0100-8000-8000-000000000001
+GET /api/workflow/00000001-0100-8000-8000-000000000001 @0
+= 200 {"correlationId":"","createTime":0,"endTime":0,"input":{},"output":{},"reasonForIncompletion":"attempt limit","startTime":0,"status":"FAILED","tasks":[],"variables":{},"workflowId":"00000001-0100-8000-8000-000000000001","workflowName":"one","workflowVersion":1}
+"#,
+    ),
+    // An input of a task that nests too deep ends the flow, and a start measures no depth.
+    (
+        Small {
+            depth: 0,
+            ..STANDARD
+        },
+        r#"
+POST /api/metadata/taskdefs @0 [{"name":"pick"}]
+= 200
+POST /api/metadata/workflow @0 {"name":"one","tasks":[{"name":"pick","taskReferenceName":"a"}]}
+= 200
 POST /api/workflow/one @1000 {"a":[[]]}
-= 200 <F1>
-GET /api/workflow/<F1>
-= 200 flow createTime=1000, startTime=1000, endTime=1000, input={"a":[[]]}, status=FAILED, reasonForIncompletion=document limit, workflowName=one
-GET /api/tasks/<T1>
-= NOT_FOUND
-
-# an output of a flow that is too long ends it, and an update measures nothing
-document=9
-<ORDER>
+= 200 00000001-0100-8000-8000-000000000001
+GET /api/workflow/00000001-0100-8000-8000-000000000001 @1000
+= 200 {"correlationId":"","createTime":1000,"endTime":1000,"input":{"a":[[]]},"output":{},"reasonForIncompletion":"document limit","startTime":1000,"status":"FAILED","tasks":[],"variables":{},"workflowId":"00000001-0100-8000-8000-000000000001","workflowName":"one","workflowVersion":1}
+GET /api/tasks/00000001-0200-8000-8000-000000000001 @1000
+= 404 {"code":"NOT_FOUND","message":"no such thing","status":404}
+"#,
+    ),
+    // An output of a flow that is too long ends it, and an update measures nothing.
+    (
+        Small {
+            document: 9,
+            ..STANDARD
+        },
+        r#"
+POST /api/metadata/taskdefs @0 [{"name":"pick"},{"name":"pack"}]
+= 200
+POST /api/metadata/workflow @0 {"name":"order","tasks":[{"name":"pick","taskReferenceName":"a"},{"name":"pack","taskReferenceName":"b"}]}
+= 200
 POST /api/workflow/order @1000 {}
-= 200 <F1>
-POST /api/tasks @2000 {"workflowInstanceId":"<F1>","taskId":"<T1>","status":"COMPLETED","outputData":{"long":"far too long"}}
-= 200 <T1>
-POST /api/tasks @3000 {"workflowInstanceId":"<F1>","taskId":"<T2>","status":"COMPLETED","outputData":{"n":1234}}
-= 200 <T2>
-GET /api/workflow/<F1>
-+ scheduledTime=1000, endTime=2000, updateTime=2000, status=COMPLETED, outputData={"long":"far too long"}
-+ taskId=<T2>, taskDefName=pack, referenceTaskName=b, scheduledTime=2000, endTime=3000, updateTime=3000, status=COMPLETED, outputData={"n":1234}
-= 200 flow createTime=1000, startTime=1000, endTime=3000, output={}, status=FAILED, reasonForIncompletion=document limit
+= 200 00000001-0100-8000-8000-000000000001
+POST /api/tasks @2000 {"workflowInstanceId":"00000001-0100-8000-8000-000000000001","taskId":"00000001-0200-8000-8000-000000000001","status":"COMPLETED","outputData":{"long":"far too long"}}
+= 200 00000001-0200-8000-8000-000000000001
+POST /api/tasks @3000 {"workflowInstanceId":"00000001-0100-8000-8000-000000000001","taskId":"00000001-0200-8000-8000-000000000002","status":"COMPLETED","outputData":{"n":1234}}
+= 200 00000001-0200-8000-8000-000000000002
+GET /api/workflow/00000001-0100-8000-8000-000000000001 @3000
+= 200 {"correlationId":"","createTime":1000,"endTime":3000,"input":{},"output":{},"reasonForIncompletion":"document limit","startTime":1000,"status":"FAILED","tasks":[{"callbackAfterSeconds":0,"endTime":2000,"inputData":{},"iteration":0,"outputData":{"long":"far too long"},"pollCount":0,"reasonForIncompletion":"","referenceTaskName":"a","retryCount":0,"scheduledTime":1000,"startTime":0,"status":"COMPLETED","taskDefName":"pick","taskId":"00000001-0200-8000-8000-000000000001","taskType":"pick","updateTime":2000,"workerId":"","workflowInstanceId":"00000001-0100-8000-8000-000000000001"},{"callbackAfterSeconds":0,"endTime":3000,"inputData":{},"iteration":0,"outputData":{"n":1234},"pollCount":0,"reasonForIncompletion":"","referenceTaskName":"b","retryCount":0,"scheduledTime":2000,"startTime":0,"status":"COMPLETED","taskDefName":"pack","taskId":"00000001-0200-8000-8000-000000000002","taskType":"pack","updateTime":3000,"workerId":"","workflowInstanceId":"00000001-0100-8000-8000-000000000001"}],"variables":{},"workflowId":"00000001-0100-8000-8000-000000000001","workflowName":"order","workflowVersion":1}
 POST /api/workflow/order @4000 {}
-= 200 <F2>
-POST /api/tasks {"workflowInstanceId":"<F2>","taskId":"<T3>","status":"COMPLETED","outputData":{}}
-= 200 <T3>
-POST /api/tasks {"workflowInstanceId":"<F2>","taskId":"<T4>","status":"COMPLETED","outputData":{"n":123}}
-= 200 <T4>
-GET /api/workflow/<F2>
-+ taskId=<T3>, workflowInstanceId=<F2>, scheduledTime=4000, endTime=4000, updateTime=4000, status=COMPLETED
-+ taskId=<T4>, workflowInstanceId=<F2>, taskDefName=pack, referenceTaskName=b, scheduledTime=4000, endTime=4000, updateTime=4000, status=COMPLETED, outputData={"n":123}
-= 200 flow workflowId=<F2>, createTime=4000, startTime=4000, endTime=4000, output={"n":123}, status=COMPLETED
-
-# an output of a flow that nests too deep ends it
-depth=2
-<ONE>
+= 200 00000001-0100-8000-8000-000000000002
+POST /api/tasks @4000 {"workflowInstanceId":"00000001-0100-8000-8000-000000000002","taskId":"00000001-0200-8000-8000-000000000003","status":"COMPLETED","outputData":{}}
+= 200 00000001-0200-8000-8000-000000000003
+POST /api/tasks @4000 {"workflowInstanceId":"00000001-0100-8000-8000-000000000002","taskId":"00000001-0200-8000-8000-000000000004","status":"COMPLETED","outputData":{"n":123}}
+= 200 00000001-0200-8000-8000-000000000004
+GET /api/workflow/00000001-0100-8000-8000-000000000002 @4000
+= 200 {"correlationId":"","createTime":4000,"endTime":4000,"input":{},"output":{"n":123},"reasonForIncompletion":"","startTime":4000,"status":"COMPLETED","tasks":[{"callbackAfterSeconds":0,"endTime":4000,"inputData":{},"iteration":0,"outputData":{},"pollCount":0,"reasonForIncompletion":"","referenceTaskName":"a","retryCount":0,"scheduledTime":4000,"startTime":0,"status":"COMPLETED","taskDefName":"pick","taskId":"00000001-0200-8000-8000-000000000003","taskType":"pick","updateTime":4000,"workerId":"","workflowInstanceId":"00000001-0100-8000-8000-000000000002"},{"callbackAfterSeconds":0,"endTime":4000,"inputData":{},"iteration":0,"outputData":{"n":123},"pollCount":0,"reasonForIncompletion":"","referenceTaskName":"b","retryCount":0,"scheduledTime":4000,"startTime":0,"status":"COMPLETED","taskDefName":"pack","taskId":"00000001-0200-8000-8000-000000000004","taskType":"pack","updateTime":4000,"workerId":"","workflowInstanceId":"00000001-0100-8000-8000-000000000002"}],"variables":{},"workflowId":"00000001-0100-8000-8000-000000000002","workflowName":"order","workflowVersion":1}
+"#,
+    ),
+    // An output of a flow that nests too deep ends it.
+    (
+        Small {
+            depth: 2,
+            ..STANDARD
+        },
+        r#"
+POST /api/metadata/taskdefs @0 [{"name":"pick"}]
+= 200
+POST /api/metadata/workflow @0 {"name":"one","tasks":[{"name":"pick","taskReferenceName":"a"}]}
+= 200
 POST /api/workflow/one @1000 {}
-= 200 <F1>
+= 200 00000001-0100-8000-8000-000000000001
 POST /api/workflow/one @1000 {}
-= 200 <F2>
-POST /api/tasks @2000 {"workflowInstanceId":"<F1>","taskId":"<T1>","status":"COMPLETED","outputData":{"a":[1]}}
-= 200 <T1>
-POST /api/tasks @2000 {"workflowInstanceId":"<F2>","taskId":"<T2>","status":"COMPLETED","outputData":{"a":[[]]}}
-= 200 <T2>
-GET /api/workflow/<F1>
-+ scheduledTime=1000, endTime=2000, updateTime=2000, status=COMPLETED, outputData={"a":[1]}
-= 200 flow createTime=1000, startTime=1000, endTime=2000, output={"a":[1]}, status=COMPLETED, workflowName=one
-GET /api/workflow/<F2>
-+ taskId=<T2>, workflowInstanceId=<F2>, scheduledTime=1000, endTime=2000, updateTime=2000, status=COMPLETED, outputData={"a":[[]]}
-= 200 flow workflowId=<F2>, createTime=1000, startTime=1000, endTime=2000, output={}, status=FAILED, reasonForIncompletion=document limit, workflowName=one
+= 200 00000001-0100-8000-8000-000000000002
+POST /api/tasks @2000 {"workflowInstanceId":"00000001-0100-8000-8000-000000000001","taskId":"00000001-0200-8000-8000-000000000001","status":"COMPLETED","outputData":{"a":[1]}}
+= 200 00000001-0200-8000-8000-000000000001
+POST /api/tasks @2000 {"workflowInstanceId":"00000001-0100-8000-8000-000000000002","taskId":"00000001-0200-8000-8000-000000000002","status":"COMPLETED","outputData":{"a":[[]]}}
+= 200 00000001-0200-8000-8000-000000000002
+GET /api/workflow/00000001-0100-8000-8000-000000000001 @2000
+= 200 {"correlationId":"","createTime":1000,"endTime":2000,"input":{},"output":{"a":[1]},"reasonForIncompletion":"","startTime":1000,"status":"COMPLETED","tasks":[{"callbackAfterSeconds":0,"endTime":2000,"inputData":{},"iteration":0,"outputData":{"a":[1]},"pollCount":0,"reasonForIncompletion":"","referenceTaskName":"a","retryCount":0,"scheduledTime":1000,"startTime":0,"status":"COMPLETED","taskDefName":"pick","taskId":"00000001-0200-8000-8000-000000000001","taskType":"pick","updateTime":2000,"workerId":"","workflowInstanceId":"00000001-0100-8000-8000-000000000001"}],"variables":{},"workflowId":"00000001-0100-8000-8000-000000000001","workflowName":"one","workflowVersion":1}
+GET /api/workflow/00000001-0100-8000-8000-000000000002 @2000
+= 200 {"correlationId":"","createTime":1000,"endTime":2000,"input":{},"output":{},"reasonForIncompletion":"document limit","startTime":1000,"status":"FAILED","tasks":[{"callbackAfterSeconds":0,"endTime":2000,"inputData":{},"iteration":0,"outputData":{"a":[[]]},"pollCount":0,"reasonForIncompletion":"","referenceTaskName":"a","retryCount":0,"scheduledTime":1000,"startTime":0,"status":"COMPLETED","taskDefName":"pick","taskId":"00000001-0200-8000-8000-000000000002","taskType":"pick","updateTime":2000,"workerId":"","workflowInstanceId":"00000001-0100-8000-8000-000000000002"}],"variables":{},"workflowId":"00000001-0100-8000-8000-000000000002","workflowName":"one","workflowVersion":1}
+"#,
+    ),
+    // A start's input is measured with the keys that the workflow's template gives it.
+    (
+        Small {
+            document: 20,
+            ..STANDARD
+        },
+        r#"
+POST /api/metadata/taskdefs @0 [{"name":"pick"}]
+= 200
+POST /api/metadata/workflow @0 {"name":"one","inputTemplate":{"k":"0123456"},"tasks":[{"name":"pick","taskReferenceName":"a"}]}
+= 200
+POST /api/workflow/one @0 {"n":123456}
+= 409 {"code":"DOCUMENT_LIMIT","message":"the document is too large","status":409}
+POST /api/workflow/one @0 {}
+= 200 00000001-0100-8000-8000-000000000001
+POST /api/workflow/one @0 {"k":"","n":123456}
+= 200 00000001-0100-8000-8000-000000000002
+GET /api/workflow/00000001-0100-8000-8000-000000000001 @0
+= 200 {"correlationId":"","createTime":0,"endTime":0,"input":{"k":"0123456"},"output":{},"reasonForIncompletion":"","startTime":0,"status":"RUNNING","tasks":[{"callbackAfterSeconds":0,"endTime":0,"inputData":{},"iteration":0,"outputData":{},"pollCount":0,"reasonForIncompletion":"","referenceTaskName":"a","retryCount":0,"scheduledTime":0,"startTime":0,"status":"SCHEDULED","taskDefName":"pick","taskId":"00000001-0200-8000-8000-000000000001","taskType":"pick","updateTime":0,"workerId":"","workflowInstanceId":"00000001-0100-8000-8000-000000000001"}],"variables":{},"workflowId":"00000001-0100-8000-8000-000000000001","workflowName":"one","workflowVersion":1}
+GET /api/workflow/00000001-0100-8000-8000-000000000002 @0
+= 200 {"correlationId":"","createTime":0,"endTime":0,"input":{"k":"","n":123456},"output":{},"reasonForIncompletion":"","startTime":0,"status":"RUNNING","tasks":[{"callbackAfterSeconds":0,"endTime":0,"inputData":{},"iteration":0,"outputData":{},"pollCount":0,"reasonForIncompletion":"","referenceTaskName":"a","retryCount":0,"scheduledTime":0,"startTime":0,"status":"SCHEDULED","taskDefName":"pick","taskId":"00000001-0200-8000-8000-000000000002","taskType":"pick","updateTime":0,"workerId":"","workflowInstanceId":"00000001-0100-8000-8000-000000000002"}],"variables":{},"workflowId":"00000001-0100-8000-8000-000000000002","workflowName":"one","workflowVersion":1}
+"#,
+    ),
+    // An input of a task is measured once it is filled.
+    (
+        Small {
+            document: 28,
+            ..STANDARD
+        },
+        r#"
+POST /api/metadata/taskdefs @0 [{"name":"pick"}]
+= 200
+POST /api/metadata/workflow @0 {"name":"one","tasks":[{"name":"pick","taskReferenceName":"a","inputParameters":{"x":"${workflow.input.s}${workflow.input.s}"}}]}
+= 200
+POST /api/workflow/one @0 {"s":"0123456789"}
+= 200 00000001-0100-8000-8000-000000000001
+POST /api/workflow/one @0 {"s":"0123456789a"}
+= 200 00000001-0100-8000-8000-000000000002
+GET /api/workflow/00000001-0100-8000-8000-000000000001 @0
+= 200 {"correlationId":"","createTime":0,"endTime":0,"input":{"s":"0123456789"},"output":{},"reasonForIncompletion":"","startTime":0,"status":"RUNNING","tasks":[{"callbackAfterSeconds":0,"endTime":0,"inputData":{"x":"01234567890123456789"},"iteration":0,"outputData":{},"pollCount":0,"reasonForIncompletion":"","referenceTaskName":"a","retryCount":0,"scheduledTime":0,"startTime":0,"status":"SCHEDULED","taskDefName":"pick","taskId":"00000001-0200-8000-8000-000000000001","taskType":"pick","updateTime":0,"workerId":"","workflowInstanceId":"00000001-0100-8000-8000-000000000001"}],"variables":{},"workflowId":"00000001-0100-8000-8000-000000000001","workflowName":"one","workflowVersion":1}
+GET /api/workflow/00000001-0100-8000-8000-000000000002 @0
+= 200 {"correlationId":"","createTime":0,"endTime":0,"input":{"s":"0123456789a"},"output":{},"reasonForIncompletion":"document limit","startTime":0,"status":"FAILED","tasks":[],"variables":{},"workflowId":"00000001-0100-8000-8000-000000000002","workflowName":"one","workflowVersion":1}
+GET /api/tasks/00000001-0200-8000-8000-000000000002 @0
+= 404 {"code":"NOT_FOUND","message":"no such thing","status":404}
+"#,
+    ),
+    // An input of a task is measured with the keys that the task's template gives it.
+    (
+        Small {
+            document: 17,
+            ..STANDARD
+        },
+        r#"
+POST /api/metadata/taskdefs @0 [{"name":"pick","inputTemplate":{"k":"012345678"}},{"name":"pack","inputTemplate":{"k":"0123456789"}}]
+= 200
+POST /api/metadata/workflow @0 {"name":"order","tasks":[{"name":"pick","taskReferenceName":"a"},{"name":"pack","taskReferenceName":"b"}]}
+= 200
+POST /api/workflow/order @0 {}
+= 200 00000001-0100-8000-8000-000000000001
+POST /api/tasks @0 {"taskId":"00000001-0200-8000-8000-000000000001","status":"COMPLETED"}
+= 200 00000001-0200-8000-8000-000000000001
+GET /api/workflow/00000001-0100-8000-8000-000000000001 @0
+= 200 {"correlationId":"","createTime":0,"endTime":0,"input":{},"output":{},"reasonForIncompletion":"document limit","startTime":0,"status":"FAILED","tasks":[{"callbackAfterSeconds":0,"endTime":0,"inputData":{"k":"012345678"},"iteration":0,"outputData":{},"pollCount":0,"reasonForIncompletion":"","referenceTaskName":"a","retryCount":0,"scheduledTime":0,"startTime":0,"status":"COMPLETED","taskDefName":"pick","taskId":"00000001-0200-8000-8000-000000000001","taskType":"pick","updateTime":0,"workerId":"","workflowInstanceId":"00000001-0100-8000-8000-000000000001"}],"variables":{},"workflowId":"00000001-0100-8000-8000-000000000001","workflowName":"order","workflowVersion":1}
+"#,
+    ),
+    // An output of a flow is measured once it is filled.
+    (
+        Small {
+            document: 28,
+            ..STANDARD
+        },
+        r#"
+POST /api/metadata/taskdefs @0 [{"name":"pick"}]
+= 200
+POST /api/metadata/workflow @0 {"name":"one","tasks":[{"name":"pick","taskReferenceName":"a"}],"outputParameters":{"x":"${a.output.s}${a.output.s}"}}
+= 200
+POST /api/workflow/one @0 {}
+= 200 00000001-0100-8000-8000-000000000001
+POST /api/workflow/one @0 {}
+= 200 00000001-0100-8000-8000-000000000002
+POST /api/tasks @0 {"taskId":"00000001-0200-8000-8000-000000000001","status":"COMPLETED","outputData":{"s":"0123456789"}}
+= 200 00000001-0200-8000-8000-000000000001
+POST /api/tasks @0 {"taskId":"00000001-0200-8000-8000-000000000002","status":"COMPLETED","outputData":{"s":"0123456789a"}}
+= 200 00000001-0200-8000-8000-000000000002
+GET /api/workflow/00000001-0100-8000-8000-000000000001?includeTasks=false @0
+= 200 {"correlationId":"","createTime":0,"endTime":0,"input":{},"output":{"x":"01234567890123456789"},"reasonForIncompletion":"","startTime":0,"status":"COMPLETED","tasks":[],"variables":{},"workflowId":"00000001-0100-8000-8000-000000000001","workflowName":"one","workflowVersion":1}
+GET /api/workflow/00000001-0100-8000-8000-000000000002?includeTasks=false @0
+= 200 {"correlationId":"","createTime":0,"endTime":0,"input":{},"output":{},"reasonForIncompletion":"document limit","startTime":0,"status":"FAILED","tasks":[],"variables":{},"workflowId":"00000001-0100-8000-8000-000000000002","workflowName":"one","workflowVersion":1}
+"#,
+    ),
+];
 
-# a start's input is measured with the keys that the workflow's template gives it
-document=20
-POST /api/metadata/taskdefs [{"name":"pick"}]
-= 200
-POST /api/metadata/workflow {"name":"one","inputTemplate":{"k":"0123456"},"tasks":[{"name":"pick","taskReferenceName":"a"}]}
-= 200
-POST /api/workflow/one {"n":123456}
-= DOCUMENT_LIMIT
-POST /api/workflow/one {}
-= 200 <F1>
-POST /api/workflow/one {"k":"","n":123456}
-= 200 <F2>
-GET /api/workflow/<F1>
-+
-= 200 flow input={"k":"0123456"}, workflowName=one
-GET /api/workflow/<F2>
-+ taskId=<T2>, workflowInstanceId=<F2>
-= 200 flow workflowId=<F2>, input={"k":"","n":123456}, workflowName=one
-
-# an input of a task is measured once it is filled
-document=28
-POST /api/metadata/taskdefs [{"name":"pick"}]
-= 200
-POST /api/metadata/workflow {"name":"one","tasks":[{"name":"pick","taskReferenceName":"a","inputParameters":{"x":"${workflow.input.s}${workflow.input.s}"}}]}
-= 200
-POST /api/workflow/one {"s":"0123456789"}
-= 200 <F1>
-POST /api/workflow/one {"s":"0123456789a"}
-= 200 <F2>
-GET /api/workflow/<F1>
-+ inputData={"x":"01234567890123456789"}
-= 200 flow input={"s":"0123456789"}, workflowName=one
-GET /api/workflow/<F2>
-= 200 flow workflowId=<F2>, input={"s":"0123456789a"}, status=FAILED, reasonForIncompletion=document limit, workflowName=one
-GET /api/tasks/<T2>
-= NOT_FOUND
-
-# an input of a task is measured with the keys that the task's template gives it
-document=17
-POST /api/metadata/taskdefs [{"name":"pick","inputTemplate":{"k":"012345678"}},{"name":"pack","inputTemplate":{"k":"0123456789"}}]
-= 200
-POST /api/metadata/workflow {"name":"order","tasks":[{"name":"pick","taskReferenceName":"a"},{"name":"pack","taskReferenceName":"b"}]}
-= 200
-POST /api/workflow/order {}
-= 200 <F1>
-POST /api/tasks {"taskId":"<T1>","status":"COMPLETED"}
-= 200 <T1>
-GET /api/workflow/<F1>
-+ inputData={"k":"012345678"}, status=COMPLETED
-= 200 flow status=FAILED, reasonForIncompletion=document limit
-
-# an output of a flow is measured once it is filled
-document=28
-POST /api/metadata/taskdefs [{"name":"pick"}]
-= 200
-POST /api/metadata/workflow {"name":"one","tasks":[{"name":"pick","taskReferenceName":"a"}],"outputParameters":{"x":"${a.output.s}${a.output.s}"}}
-= 200
-POST /api/workflow/one {}
-= 200 <F1>
-POST /api/workflow/one {}
-= 200 <F2>
-POST /api/tasks {"taskId":"<T1>","status":"COMPLETED","outputData":{"s":"0123456789"}}
-= 200 <T1>
-POST /api/tasks {"taskId":"<T2>","status":"COMPLETED","outputData":{"s":"0123456789a"}}
-= 200 <T2>
-GET /api/workflow/<F1>?includeTasks=false
-= 200 flow output={"x":"01234567890123456789"}, status=COMPLETED, workflowName=one
-GET /api/workflow/<F2>?includeTasks=false
-= 200 flow workflowId=<F2>, status=FAILED, reasonForIncompletion=document limit, workflowName=one
-"#;
-
-/// The number that a word `NAME=NUMBER` says of the limit of that name, or else the standard one. None is above that.
-fn limit_in(words: &str, name: &str, standard: u32) -> Result<u32, Fail>
-    ensures { IfOk result (λ limit. limit ≤ standard) }
-{
-    for word in words.split(", ") {
-        let (key, number) = word.split_once('=').unwrap_or((word, ""));
-        if key == name {
-            return Ok(number.parse::<u32>()?.min(standard));
-        }
-    }
-    Ok(standard)
+/// The standard limits but for those; none is above the standard one.
+fn limits_of(small: Small) -> Limits {
+    let mut limits = Limits::STANDARD;
+    limits.flows = small.flows.min(20_000);
+    limits.attempts = small.attempts.min(4_096);
+    limits.depth = small.depth.min(64);
+    limits.document = small.document.min(1_048_576);
+    limits
 }
 
-/// The standard limits but for those that the words say.
-fn limits_of(words: &str) -> Result<Limits, Fail> {
-    let mut limits = Limits::STANDARD;
-    limits.attempts = limit_in(words, "attempts", 4_096)?;
-    limits.flows = limit_in(words, "flows", 20_000)?;
-    limits.depth = limit_in(words, "depth", 64)?;
-    limits.document = limit_in(words, "document", 1_048_576)?;
-    Ok(limits)
+/// The bytes of the request that a line says.
+fn request(alloc: Global, line: &str) -> Result<String, Fail> {
+    let (start, rest) = line.split_once(" @").unwrap_or((line, "0"));
+    let (moment, body) = rest.split_once(' ').unwrap_or((rest, ""));
+    let length = body.len();
+    Ok(format!(in alloc;
+        "{start} HTTP/1.1\r\nMoment-Ms: {moment}\r\nContent-Length: {length}\r\n\r\n{body}"
+    )?)
 }
 
 /// One step of the machine, where it can make one more.
-fn stepped(
-    alloc: Global,
-    core: &mut Core,
-    routes: &Routes,
-    moment: u64,
-    message: &Message,
-) -> Result<Reply, Fail>
+fn stepped(alloc: Global, core: &mut Core, message: &Message) -> Result<Reply, Fail>
     ensures { IfOk result IsPrintable }
 {
     if core.entries() >= 1 << 61 {
         return Err(Fail::new("too many entries"));
     }
-    match read_call(alloc, message, 1, &Limits::STANDARD, routes) {
+    let routes = Routes::new(alloc)?;
+    let Ok(Some(moment)) = moment_of(message) else {
+        return Err(Fail::new("no moment"));
+    };
+    match read_call(alloc, message, 1, &Limits::STANDARD, &routes) {
         Ok(call) => Ok(core.step(alloc, 0, moment.min(LAST_MOMENT), call)),
         Err(_) => Err(Fail::new("a request is no call")),
     }
 }
 
-/// The moment at which the message acts, where this one is in force before it.
-fn moment_at(before: u64, message: &Message) -> u64 {
-    match moment_of(message) {
-        Ok(Some(stated)) => stated,
-        _ => before,
-    }
-}
-
-/// The bytes that the machine's replies to the requests are.
-fn answers(alloc: Global, core: &mut Core, requests: &str) -> Result<String, Fail> {
-    let mut source = MemorySource::new(alloc, requests.as_bytes(), 4096, &[])?;
+/// The status and the body of the machine's reply to the request that a line says.
+fn answer(alloc: Global, core: &mut Core, line: &str) -> Result<String, Fail> {
+    let request = request(alloc, line)?;
+    let mut source = MemorySource::new(alloc, request.as_str().as_bytes(), 4096, &[])?;
     let items = all_messages(alloc, &mut source, &Limits::STANDARD);
-    let routes = Routes::new(alloc)?;
-    let mut moment = 0;
-    let mut out = String::new(alloc);
-    for message in &items.messages {
-        moment = moment_at(moment, message);
-        let reply = stepped(alloc, core, &routes, moment, message)?;
-        out.push_str(print_reply(alloc, &reply, 1, false, false)?.as_str())?;
-    }
-    Ok(out)
+    let Some(message) = items.messages.first() else {
+        return Err(Fail::new("no request"));
+    };
+    let reply = stepped(alloc, core, message)?;
+    let text = print_reply(alloc, &reply, 1, false, false)?;
+    let (head, body) = text.as_str().split_once("\r\n\r\n").unwrap_or(("", ""));
+    let status = head.split(' ').nth(1).unwrap_or("");
+    Ok(format!(in alloc; "= {status} {body}")?)
 }
 
-fn assert_script(
-    rt: &impl Abort,
-    alloc: Global,
-    core: &mut Core,
-    name: &str,
-    script: &str,
-) -> Result<(), Fail> {
-    let exchange = written(alloc, script)?;
-    assert!(rt; !exchange.output.is_empty(), "{name}");
-    let answers = answers(alloc, core, exchange.input.as_str())?;
-    assert_eq!(rt; answers.as_str(), exchange.output.as_str(), "{name}");
+/// Asks each request of a run, and compares its answer.
+pub fn assert_run(rt: &impl Abort, alloc: Global, core: &mut Core, run: &str) -> Result<(), Fail> {
+    let mut answered = String::new(alloc);
+    for line in run.lines() {
+        if line.starts_with("= ") {
+            assert_eq!(rt; answered.as_str().trim_end(), line);
+        } else if !line.is_empty() {
+            answered = answer(alloc, core, line)?;
+        }
+    }
     Ok(())
 }
 
 #[test]
 fn limits_hold(rt: HostRuntime) -> Result<(), Fail> {
-    let alloc = rt.alloc();
-    assert!(rt; SCRIPTS.split("\n# ").count() > 1);
-    for script in SCRIPTS.split("\n# ").skip(1) {
-        let (name, script) = cut_line(script);
-        let (limits, script) = cut_line(script);
-        let mut core = Core::new(alloc, 1, limits_of(limits)?)?;
-        assert_script(&rt, alloc, &mut core, name, script)?;
+    for (small, run) in RUNS {
+        let mut core = Core::new(rt.alloc(), 1, limits_of(small))?;
+        assert_run(&rt, rt.alloc(), &mut core, run)?;
     }
     Ok(())
-}
-
-#[test]
-fn a_core_tells_what_it_was_made_with(rt: HostRuntime) -> Result<(), Fail> {
-    let alloc = rt.alloc();
-    let mut core = Core::new(alloc, 7, limits_of("attempts=3, flows=1, document=9")?)?;
-    assert_eq!(rt; core.entries(), 0);
-    assert_eq!(rt; core.mark(), 7);
-    assert_eq!(rt; core.limits().attempts, 3);
-    assert_eq!(rt; core.limits().flows, 1);
-    assert_eq!(rt; core.limits().document, 9);
-    let start = Call::Start {
-        name: Text::new(alloc, "order")?,
-        version: None,
-        input: Doc::Table(Fields::new(alloc)),
-        correlation: Text::new(alloc, "")?,
-    };
-    let reply = core.step(alloc, 0, 5, start);
-    assert!(rt; matches!(reply, Reply::Refused(Refusal::NotFound)));
-    assert_eq!(rt; core.entries(), 1);
-    Ok(())
-}
-
-/// An attempt goes on, and is to be handed out again after so many seconds.
-fn put_back(
-    alloc: Global,
-    core: &mut Core,
-    moment: u64,
-    task: u64,
-    callback: u32,
-) -> Result<Reply, Fail> {
-    if core.entries() >= 1 << 61 {
-        return Err(Fail::new("too many entries"));
-    }
-    let outcome = TaskResult {
-        status: TaskStatus::InProgress,
-        output: Doc::Table(Fields::new(alloc)),
-        reason: Text::new(alloc, "later")?,
-        callback: callback.min(1_000_000),
-        worker: None,
-    };
-    let update = Call::Update {
-        flow: None,
-        task: TaskNo(task),
-        outcome,
-    };
-    Ok(core.step(alloc, 0, moment.min(LAST_MOMENT), update))
-}
-
-/// Flows whose tasks are put back: the one that is ready earlier is handed out first, and of two that are ready at one
-/// moment that of the lower number.
-#[test]
-fn ready_moments_go_before_numbers(rt: HostRuntime) -> Result<(), Fail> {
-    let alloc = rt.alloc();
-    let mut core = Core::new(alloc, 1, Limits::STANDARD)?;
-    assert_script(
-        &rt,
-        alloc,
-        &mut core,
-        "three flows",
-        r#"
-        <ONE>
-        POST /api/workflow/one @1000 {}
-        = 200 <F1>
-        POST /api/workflow/one @1000 {}
-        = 200 <F2>
-        POST /api/workflow/one @1000 {}
-        = 200 <F3>
-        GET /api/tasks/poll/pick?workerid=w1 @1000
-        = 200 task scheduledTime=1000, startTime=1000, updateTime=1000, pollCount=1, status=IN_PROGRESS, workerId=w1
-        "#,
-    )?;
-    let first = put_back(alloc, &mut core, 1000, 1, 5)?;
-    assert!(rt; matches!(first, Reply::Id(IdKind::Task, 1)));
-    let second = put_back(alloc, &mut core, 2000, 2, 4)?;
-    assert!(rt; matches!(second, Reply::Id(IdKind::Task, 2)));
-    let third = put_back(alloc, &mut core, 2000, 3, 3)?;
-    assert!(rt; matches!(third, Reply::Id(IdKind::Task, 3)));
-    assert_script(
-        &rt,
-        alloc,
-        &mut core,
-        "tasks that were put back",
-        r#"
-        GET /api/tasks/poll/pick @4999
-        = 204
-        GET /api/tasks/<T1>
-        = 200 task callbackAfterSeconds=5, scheduledTime=1000, startTime=1000, updateTime=1000, pollCount=1, reasonForIncompletion=later, workerId=w1
-        GET /api/tasks/poll/pick @6000
-        = 200 task taskId=<T3>, workflowInstanceId=<F3>, callbackAfterSeconds=3, scheduledTime=1000, startTime=6000, updateTime=6000, pollCount=1, reasonForIncompletion=later, status=IN_PROGRESS
-        GET /api/tasks/poll/pick @6000
-        = 200 task callbackAfterSeconds=5, scheduledTime=1000, startTime=1000, updateTime=6000, pollCount=2, reasonForIncompletion=later, status=IN_PROGRESS
-        GET /api/tasks/poll/pick @6000
-        = 200 task taskId=<T2>, workflowInstanceId=<F2>, callbackAfterSeconds=4, scheduledTime=1000, startTime=6000, updateTime=6000, pollCount=1, reasonForIncompletion=later, status=IN_PROGRESS
-        GET /api/tasks/poll/pick @6000
-        = 204
-        "#,
-    )
 }

@@ -1,4 +1,0 @@
-mod numbers;
-mod replies;
-mod requests;
-mod told;

@@ -1,4 +1,0 @@
-use Rattle.wf_timers.proofs.tests.the_least_that_is_due_is_found.Given as goal
-
-abbrev pub ghosts-least : goal.ghosts-least
-ghosts-least g a = record { name = a.blank.name; parts = a.blank.parts }
