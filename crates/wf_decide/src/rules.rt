@@ -8,7 +8,7 @@ ghost use Rattle.wf_machine.specs.Naming.{names};
 ghost use Rattle.wf_machine.specs.Plans.{CanMake, new_tasks, turn_at};
 ghost use Rattle.wf_machine.specs.Records.{Held, is_kind_at, is_simple};
 ghost use Rattle.wf_machine.specs.Rules as spec;
-ghost use Rattle.wf_machine.specs.Sight.{sight};
+ghost use Rattle.wf_machine.specs.Sight.{sight, told};
 
 use crate::filling::{complete_filled, complete_with, fails, has_keys, task_with};
 use crate::no_memory::NoMemory;
@@ -156,6 +156,7 @@ fn schedule_node(
 }
 
 /// A SIMPLE node is scheduled, or the flow ends for want of a definition, of a place or of room for its input.
+#[tactic(auto, unfolding(wf_machine::specs::Sight::sight))]
 fn schedule_simple(
     alloc: Global,
     flow: &Flow,
@@ -208,7 +209,7 @@ fn schedule_task(
     requires runs { spec.is_running flow.now.flow.status ≡ true }
     requires simple { is_kind_at is_simple flow.now.flow.def node.now.index ≡ true }
     ensures chosen { IfOk result (λ act. act ≡ spec.schedule_task limits.now (sight flow.now.flow) iteration node.now def.now
-        (filled (names mark (sight flow.now.flow)) node.now.input)) }
+        (filled (names mark (told flow.now.flow)) node.now.input)) }
     ensures fits { IfOk result (λ act. CanMake flow.now.flow.def (spec.is_running flow.now.flow.status) act) }
 {
     if limits.attempts as u64 <= flow.len() {
@@ -230,9 +231,9 @@ fn schedule_filled(
     requires runs { spec.is_running flow.now.flow.status ≡ true }
     requires simple { is_kind_at is_simple flow.now.flow.def node.now.index ≡ true }
     ensures chosen { IfOk result (λ act. act
-        ≡ (if spec.is_input_too_large limits.now def.now (filled (names mark (sight flow.now.flow)) node.now.input)
+        ≡ (if spec.is_input_too_large limits.now def.now (filled (names mark (told flow.now.flow)) node.now.input)
         then spec.fails (codes "document limit") (Some (Doc.Table []))
-        else Act.Add (spec.new_task iteration node.now def.now (filled (names mark (sight flow.now.flow)) node.now.input)))) }
+        else Act.Add (spec.new_task iteration node.now def.now (filled (names mark (told flow.now.flow)) node.now.input)))) }
     ensures fits { IfOk result (λ act. CanMake flow.now.flow.def (spec.is_running flow.now.flow.status) act) }
 {
     let scope = FlowScope::new(alloc, flow, mark)?;
@@ -243,7 +244,7 @@ fn schedule_filled(
 #[tactic(auto, unfolding(wf_machine::specs::Sight::sight))]
 fn complete(alloc: Global, flow: &Flow, mark: u32, limits: &Limits) -> Result<Act, NoMemory>
     ensures chosen { IfOk result (λ act. act ≡ spec.complete limits.now (if spec.has_keys flow.now.flow.def.output
-        then filled (names mark (sight flow.now.flow)) flow.now.flow.def.output else spec.last_output (sight flow.now.flow))) }
+        then filled (names mark (told flow.now.flow)) flow.now.flow.def.output else spec.last_output (sight flow.now.flow))) }
     ensures fits { IfOk result (λ act. CanMake flow.now.flow.def (spec.is_running flow.now.flow.status) act) }
 {
     let output = &flow.def().output;
@@ -260,7 +261,7 @@ fn complete_with_own(
     mark: u32,
     limits: &Limits,
 ) -> Result<Act, NoMemory>
-    ensures chosen { IfOk result (λ act. act ≡ spec.complete limits.now (filled (names mark (sight flow.now.flow)) flow.now.flow.def.output)) }
+    ensures chosen { IfOk result (λ act. act ≡ spec.complete limits.now (filled (names mark (told flow.now.flow)) flow.now.flow.def.output)) }
     ensures fits { IfOk result (λ act. CanMake flow.now.flow.def (spec.is_running flow.now.flow.status) act) }
 {
     let scope = FlowScope::new(alloc, flow, mark)?;

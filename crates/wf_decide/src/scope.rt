@@ -6,7 +6,7 @@ ghost use Rattle.wf_doc.specs.declared.doc.Doc as doc;
 ghost use Rattle.wf_doc.specs.declared.path.Step.{Step};
 ghost use Rattle.wf_machine.specs.Documents.{flow_id};
 ghost use Rattle.wf_machine.specs.Naming.{named_id, named_in_attempt, named_in_flow, names, only_id};
-ghost use Rattle.wf_machine.specs.Sight.{seen, sight};
+ghost use Rattle.wf_machine.specs.Sight.{seen, told};
 
 use crate::no_memory::NoMemory;
 use std::alloc::Global;
@@ -45,7 +45,7 @@ impl<'f> FlowScope<'f> {
     /// What stands behind `workflow`.
     #[tactic(auto, using(crate::proofs::ScopeLemmas::second_name, crate::proofs::ScopeLemmas::second_within, crate::proofs::ScopeLemmas::none_in_flow))]
     fn find_in_flow(&self, path: &Path) -> Option<&Doc>
-        ensures { option_copied result ≡ named_in_flow self.now.mark (sight self.now.flow.now.flow) (drop 1 path.now) }
+        ensures { option_copied result ≡ named_in_flow self.now.mark (told self.now.flow.now.flow) (drop 1 path.now) }
     {
         match path.name(1) {
             Some(key) => self.find_key(key, path),
@@ -54,11 +54,10 @@ impl<'f> FlowScope<'f> {
     }
 
     /// What stands behind `workflow` and that key, which is the second step of the path.
-    #[tactic(auto, unfolding(wf_machine::specs::Sight::sight))]
     fn find_key(&self, key: &str, path: &Path) -> Option<&Doc>
         requires { 2 ≤ length path.now }
         ensures { option_copied result
-            ≡ named_in_flow self.now.mark (sight self.now.flow.now.flow) (Step.Name key.now ∷ drop 2 path.now) }
+            ≡ named_in_flow self.now.mark (told self.now.flow.now.flow) (Step.Name key.now ∷ drop 2 path.now) }
     {
         if key == "input" {
             return wf_doc::at(self.flow.input(), path, 2);
@@ -73,7 +72,7 @@ impl<'f> FlowScope<'f> {
     #[tactic(auto, using(crate::proofs::ScopeLemmas::id_alone, crate::proofs::ScopeLemmas::no_id_behind))]
     fn find_id(&self, key: &str, path: &Path) -> Option<&Doc>
         requires { 2 ≤ length path.now }
-        ensures { option_copied result ≡ only_id self.now.mark (sight self.now.flow.now.flow) key.now (drop 2 path.now) }
+        ensures { option_copied result ≡ only_id self.now.mark (told self.now.flow.now.flow) key.now (drop 2 path.now) }
     {
         if path.len() == 2 {
             self.id_named(key)
@@ -82,9 +81,8 @@ impl<'f> FlowScope<'f> {
         }
     }
 
-    #[tactic(auto, unfolding(wf_machine::specs::Sight::sight))]
     fn id_named(&self, key: &str) -> Option<&Doc>
-        ensures { option_copied result ≡ named_id self.now.mark (sight self.now.flow.now.flow) key.now }
+        ensures { option_copied result ≡ named_id self.now.mark (told self.now.flow.now.flow) key.now }
     {
         if key == "workflowId" {
             return Some(&self.id);
@@ -99,7 +97,7 @@ impl<'f> FlowScope<'f> {
     #[tactic(auto, using(crate::proofs::ScopeLemmas::names_workflow, crate::proofs::ScopeLemmas::names_attempt, crate::proofs::ScopeLemmas::names_nothing))]
     fn find_named(&self, first: &str, path: &Path) -> Option<&Doc>
         ensures { option_copied result
-            ≡ names self.now.mark (sight self.now.flow.now.flow) (Step.Name first.now ∷ drop 1 path.now) }
+            ≡ names self.now.mark (told self.now.flow.now.flow) (Step.Name first.now ∷ drop 1 path.now) }
     {
         if first == "workflow" {
             return self.find_in_flow(path);
@@ -150,9 +148,9 @@ fn flow_id(alloc: Global, mark: u32, number: FlowNo) -> Result<Text, NoMemory>
 
 impl<'f> Scope for FlowScope<'f> {
     ghost use Rattle.wf_machine.specs.Naming as spec;
-    ghost use Rattle.wf_machine.specs.Sight.{sight};
+    ghost use Rattle.wf_machine.specs.Sight.{told};
 
-    ghost names = { λ scope. spec.names scope.mark (sight scope.flow.now.flow) };
+    ghost names = { λ scope. spec.names scope.mark (told scope.flow.now.flow) };
 
     #[tactic(auto, using(crate::proofs::ScopeLemmas::first_name, crate::proofs::ScopeLemmas::no_first_name))]
     fn find(&self, path: &Path) -> Option<&Doc> {

@@ -5,7 +5,7 @@ ghost use Rattle.std.specs.List.{find};
 ghost use Rattle.std.specs.Option.{option_copied, option_map};
 ghost use Rattle.wf_machine.specs.Marks.{all_nodes};
 ghost use Rattle.wf_machine.specs.Naming.{attempt_of, is_looped, named_attempt, names_node, names_turn};
-ghost use Rattle.wf_machine.specs.Sight.{seen, sight};
+ghost use Rattle.wf_machine.specs.Sight.{seen, told};
 
 use crate::attempt::Attempt;
 use crate::finding::{NodeTest, find_in};
@@ -58,9 +58,9 @@ pub fn node_named<'n>(nodes: &'n [Node], text: &str) -> Option<&'n Node>
 
 impl Flow {
     /// The attempt that the text names.
-    #[tactic(auto, using(crate::proofs::FindLemmas::found_passes), unfolding(wf_machine::specs::Sight::sight))]
+    #[tactic(auto, using(crate::proofs::FindLemmas::found_passes))]
     pub fn named_attempt(&self, text: &str) -> Option<&Attempt>
-        ensures { option_map seen (option_copied result) ≡ named_attempt (sight self.now.flow) text.now }
+        ensures { option_map seen (option_copied result) ≡ named_attempt (told self.now.flow) text.now }
     {
         match node_named(self.def().nodes.as_slice(), text) {
             Some(node) => self.attempt_of(node, text),
@@ -69,10 +69,9 @@ impl Flow {
     }
 
     /// The attempt of the node that the text names.
-    #[tactic(auto, unfolding(wf_machine::specs::Sight::sight))]
     fn attempt_of(&self, node: &Node, text: &str) -> Option<&Attempt>
         requires { names_node self.now.flow.def.nodes text.now node.now ≡ true }
-        ensures { option_map seen (option_copied result) ≡ attempt_of (sight self.now.flow) text.now node.now }
+        ensures { option_map seen (option_copied result) ≡ attempt_of (told self.now.flow) text.now node.now }
     {
         if text != node.reference.as_str() {
             return match turn_digits(node.reference.as_str(), text) {

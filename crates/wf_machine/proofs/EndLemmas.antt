@@ -1,5 +1,5 @@
 -- A decision ends: each rule lowers a number that is at most 6 * L + 2, told of sights alone.
-use Rattle.std.proofs.Common.{◌≡◌, ℕ, zero, suc, ◌+◌, ◌-◌, ◌*◌, ◌^◌, ◌<◌, ◌≤◌, max, Bool, true, false, if◌then◌else◌, ◌&&◌, not, nat_le, List, [], ◌∷◌, ◌++◌, map, length, Option, None, Some, codes, refl, ◌∙◌, ap, arith}
+use Rattle.std.proofs.Common.{◌≡◌, ℕ, zero, suc, ◌+◌, ◌-◌, ◌*◌, ◌^◌, ◌<◌, ◌≤◌, Bool, true, false, if◌then◌else◌, ◌&&◌, nat_le, List, [], ◌∷◌, ◌++◌, map, length, Option, None, Some, codes, refl, ◌∙◌, ap, arith}
 use Rattle.std.proofs.lemmas.List.{length-map, length-append}
 use Rattle.std.proofs.lemmas.Bool.{leb-false}
 use Rattle.std.specs.Prelude.{option_map, option_and_then}
@@ -17,8 +17,8 @@ use Rattle.wf_machine.specs.declared.definition.NodeKind.{NodeKind, Simple, Swit
 use Rattle.wf_machine.specs.declared.definition.TaskDef.{TaskDef}
 use Rattle.wf_machine.specs.declared.walking.Next.{Next}
 use Rattle.wf_machine.specs.declared.walking.Next.TheVariants.{Schedule, Join as Joins, Turn as Turns, Waits, Done}
-use Rattle.wf_machine.specs.State.{Flow, empty_table}
-use Rattle.wf_machine.specs.Sight.{Seen, Sight, Scene, seen, sight}
+use Rattle.wf_machine.specs.State.{empty_table}
+use Rattle.wf_machine.specs.Sight.{Sight, Scene, seen, sight}
 use Rattle.wf_machine.specs.Marks.{next_step, node_at}
 use Rattle.wf_machine.specs.Rules.{Turn, make, made, is_running, fails, is_too_large, task_def_named, filled_in, new_task, is_input_too_large, schedule_task, schedule_simple, schedule_kind, flow_output, complete, take_step, pick, is_add, allowed, choose, rule, after, rules_at_most, decide}
 use Rattle.wf_machine.proofs.PlanLemmas.{seen_new, shown, sight_make}

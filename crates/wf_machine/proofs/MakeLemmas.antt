@@ -1,5 +1,5 @@
 -- What acts leave of a record, and of the numbers of its attempts.
-use Rattle.std.proofs.Common.{◌≡◌, ℕ, ◌+◌, ◌*◌, ◌^◌, ◌<◌, ◌≤◌, Bool, true, false, if◌then◌else◌, ◌==◌, is_some, List, [], ◌∷◌, ◌++◌, map, length, Option, None, Some, refl, sym, ap, ◌∙◌, append_assoc, subst, arith}
+use Rattle.std.proofs.Common.{◌≡◌, ℕ, ◌+◌, ◌≤◌, Bool, true, false, if◌then◌else◌, ◌==◌, List, [], ◌∷◌, ◌++◌, map, length, Option, None, Some, refl, sym, ◌∙◌, append_assoc, subst, arith}
 use Rattle.std.proofs.lemmas.Bool.Decides.{nat_tests}
 use Rattle.std.proofs.lemmas.List.{append-nil}
 use Rattle.std.specs.List.{find}
@@ -10,7 +10,6 @@ use Rattle.wf_names.specs.declared.statuses.TaskStatus.TheVariants.{Canceled}
 use Rattle.wf_names.specs.declared.statuses.FlowStatus.{FlowStatus}
 use Rattle.wf_names.specs.declared.statuses.FlowStatus.TheVariants.{Running, Paused, Completed, Failed, TimedOut, Terminated}
 use Rattle.wf_machine.specs.declared.acting.Act.{Act}
-use Rattle.wf_machine.specs.declared.acting.Act.TheVariants.{Add, End}
 use Rattle.wf_machine.specs.declared.acting.NewAttempt.{NewAttempt}
 use Rattle.wf_machine.specs.declared.definition.FlowDef.{FlowDef}
 use Rattle.wf_machine.specs.declared.definition.Node.{Node}

@@ -1,5 +1,5 @@
 -- A plan that holds does what a decision does, at another moment and with other numbers.
-use Rattle.std.proofs.Common.{◌≡◌, ℕ, zero, suc, ◌+◌, ◌^◌, ◌≤◌, ◌<◌, Bool, true, false, if◌then◌else◌, ◌&&◌, ◌||◌, nat_le, List, [], ◌∷◌, ◌++◌, map, Option, None, Some, codes, ap, refl, sym, ◌∙◌, arith}
+use Rattle.std.proofs.Common.{◌≡◌, ℕ, zero, suc, ◌+◌, ◌^◌, ◌≤◌, ◌<◌, Bool, true, false, if◌then◌else◌, ◌&&◌, nat_le, List, [], ◌∷◌, ◌++◌, map, Option, None, Some, codes, ap, refl, sym, ◌∙◌, arith}
 use Rattle.std.proofs.lemmas.Bool.Decides.{nat_tests}
 use Rattle.std.specs.Prelude.{option_map}
 use Rattle.std.specs.List.{list_any}
@@ -49,7 +49,18 @@ plan_decides limits scene e t = made_planned limits scene e (rules_at_most limit
 
 abbrev pub seen_new : NewAttempt → Seen
 seen_new n =
-    record { node = n.node; iteration = n.iteration; status = Scheduled; input = n.input; output = empty_table; turn = 0; superseded = false }
+    record {
+      node = n.node;
+      iteration = n.iteration;
+      status = Scheduled;
+      input = n.input;
+      output = empty_table;
+      reason = [];
+      retry = 0;
+      timing = Some n.timing;
+      turn = 0;
+      superseded = false;
+    }
 
 abbrev pub seen_canceled : Seen → Seen
 seen_canceled s = if task_is_open s.status then record s { status = Canceled } else s

@@ -13,14 +13,13 @@ use Rattle.wf_machine.specs.declared.calling.TaskResult.{TaskResult}
 use Rattle.wf_machine.specs.declared.calling.Call.{Call}
 use Rattle.wf_machine.specs.declared.calling.Call.TheVariants.{PutTaskDefs, UpdateTaskDef, TaskDefs, TaskDefNamed, DropTaskDef, AddFlowDef, PutFlowDefs, FlowDefs, FlowDefNamed, DropFlowDef, Start, GetFlow, Running, Poll, GetTask, Update}
 use Rattle.wf_machine.specs.declared.calling.Reply.{Reply}
-use Rattle.wf_machine.specs.declared.calling.Entry.{Entry}
 use Rattle.wf_machine.specs.State.{Attempt, Flow, Kept, State, attempt_numbered}
 use Rattle.wf_machine.specs.Records.{is_kind_at}
 use Rattle.wf_machine.specs.Tasks.{takes_update}
 use Rattle.wf_machine.specs.Naming.{with_template}
-use Rattle.wf_machine.specs.Queues.{Waiting, next_waiting}
+use Rattle.wf_machine.specs.Queues.{next_waiting}
 use Rattle.wf_machine.specs.Rules.{task_def_named}
-use Rattle.wf_machine.specs.Calls.{Stepped, stepped, step, entry_of, call_made, put_task_defs, update_task_def, drop_task_def, get_task_def, register, put_flow_defs, drop_flow_def, get_flow_def, get_running, start, start_of, start_with, started, refused, is_full, is_too_long, flow_def_at, flow_def_for, flow_numbered, flow_of_task, get_flow, get_task, task_read, poll, hand_over, update, update_of, is_wanted, flow_updated, task_updated, settled_with, is_starved}
+use Rattle.wf_machine.specs.Calls.{Stepped, stepped, step, entry_of, call_made, put_task_defs, update_task_def, drop_task_def, get_task_def, register, put_flow_defs, drop_flow_def, get_flow_def, get_running, start, start_of, start_with, started, refused, is_full, is_too_long, flow_def_at, flow_def_for, flow_numbered, flow_of_task, get_flow, get_task, task_read, poll, update, update_of, is_wanted, flow_updated, task_updated, settled_with, is_starved}
 
 abbrev IsFed : Stepped → Type 0
 IsFed x = is_starved x.reply ≡ false

@@ -1,5 +1,6 @@
 -- The definitions of the machine.
 pub mod Text
+pub mod Nodes
 pub mod State
 pub mod Sight
 pub mod Marks

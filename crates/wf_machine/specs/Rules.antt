@@ -20,7 +20,7 @@ use Rattle.wf_machine.specs.declared.walking.Next.{Next}
 use Rattle.wf_machine.specs.declared.walking.Next.TheVariants.{Schedule, Done}
 use Rattle.wf_machine.specs.State.{Attempt, Flow, empty_table, new_attempt, flow_ended}
 use Rattle.wf_machine.specs.Text.{same_text}
-use Rattle.wf_machine.specs.Sight.{Seen, Sight, Scene, sight}
+use Rattle.wf_machine.specs.Sight.{Seen, Sight, Scene, sight, told_by}
 use Rattle.wf_machine.specs.Marks.{last_of, next_step, node_at}
 use Rattle.wf_machine.specs.Naming.{names, with_template}
 
@@ -80,7 +80,7 @@ task_def_named name defs = find (is_task_named name) defs
 
 -- a document with each expression replaced by what it names in the flow
 abbrev pub filled_in : Scene → Sight → Doc → Doc
-filled_in scene s d = filled (names scene.mark s) d
+filled_in scene s d = filled (names scene.mark (told_by s)) d
 
 -- the attempt at a SIMPLE node whose task is registered so, with that filled input
 abbrev pub new_task : ℕ → Node → TaskDef → Doc → NewAttempt

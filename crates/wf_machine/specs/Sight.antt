@@ -1,11 +1,12 @@
 -- What the rules see of a flow: its own number, but none of an attempt, and no moment.
-use Rattle.std.specs.Prelude.{ℕ, Bool, List, map}
+use Rattle.std.specs.Prelude.{ℕ, Bool, List, map, Option}
 use Rattle.wf_doc.specs.declared.doc.Doc.{Doc}
 use Rattle.wf_names.specs.declared.ids.FlowNo.{FlowNo}
 use Rattle.wf_names.specs.declared.statuses.TaskStatus.{TaskStatus}
 use Rattle.wf_names.specs.declared.statuses.FlowStatus.{FlowStatus}
 use Rattle.wf_machine.specs.declared.definition.FlowDef.{FlowDef}
 use Rattle.wf_machine.specs.declared.definition.TaskDef.{TaskDef}
+use Rattle.wf_machine.specs.declared.timed.Timing.{Timing}
 use Rattle.wf_machine.specs.State.{Attempt, Flow, State}
 
 -- what they see of an attempt
@@ -15,6 +16,9 @@ pub record Seen : Type 0 where
   pub status : TaskStatus
   pub input : Doc
   pub output : Doc
+  pub reason : List ℕ
+  pub retry : ℕ
+  pub timing : Option Timing
   pub turn : ℕ
   pub superseded : Bool
 
@@ -26,6 +30,9 @@ seen a =
       status = a.status;
       input = a.input;
       output = a.output;
+      reason = a.reason;
+      retry = a.retry;
+      timing = a.timing;
       turn = a.turn;
       superseded = a.superseded;
     }
@@ -50,6 +57,38 @@ sight flow =
       status = flow.status;
       correlation = flow.correlation;
       attempts = map seen flow.attempts;
+    }
+
+-- what expressions may name: of a flow no moment, and no number but its own
+pub record Told : Type 0 where
+  pub number : FlowNo
+  pub correlation : List ℕ
+  pub input : Doc
+  pub variables : Doc
+  pub def : FlowDef
+  pub attempts : List Seen
+
+abbrev pub told : Flow → Told
+told flow =
+    record {
+      number = flow.number;
+      correlation = flow.correlation;
+      input = flow.input;
+      variables = flow.variables;
+      def = flow.def;
+      attempts = map seen flow.attempts;
+    }
+
+-- the same by what the rules see
+abbrev pub told_by : Sight → Told
+told_by s =
+    record {
+      number = s.number;
+      correlation = s.correlation;
+      input = s.input;
+      variables = s.variables;
+      def = s.def;
+      attempts = s.attempts;
     }
 
 -- what they read beside the flow
