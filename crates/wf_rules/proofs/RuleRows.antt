@@ -1,15 +1,18 @@
 -- Worked rows of the rules: a flow of SIMPLE nodes at a moment, and what the first rule that applies wants done. Each was worked out by hand.
-use Rattle.std.proofs.Common.{◌≡◌, ℕ, Bool, true, false, List, [], ◌∷◌, codes, refl, None, Some}
+use Rattle.std.proofs.Common.{◌≡◌, ℕ, Bool, true, false, List, [], ◌∷◌, codes, pos, refl, None, Some}
 use Rattle.std.specs.Prelude.{Option}
 use Rattle.wf_doc.specs.declared.doc.Doc.{Doc}
 use Rattle.wf_doc.specs.declared.doc.Doc.TheVariants.{Null}
 use Rattle.wf_names.specs.declared.statuses.TaskStatus.{TaskStatus}
 use Rattle.wf_names.specs.declared.statuses.TaskStatus.TheVariants as task
+use Rattle.wf_names.specs.declared.statuses.FlowStatus.{FlowStatus}
 use Rattle.wf_names.specs.declared.statuses.FlowStatus.TheVariants as flow
 use Rattle.wf_wire.specs.declared.limits.Limits.{Limits}
+use Rattle.wf_machine.specs.declared.definition.Count.TheVariants.{Number}
 use Rattle.wf_machine.specs.declared.definition.FlowDef.{FlowDef}
 use Rattle.wf_machine.specs.declared.definition.Node.{Node}
 use Rattle.wf_machine.specs.declared.definition.NodeKind.{Simple}
+use Rattle.wf_machine.specs.declared.sight.ChildState.{ChildState}
 use Rattle.wf_machine.specs.declared.timed.RetryLogic.TheVariants.{Fixed}
 use Rattle.wf_machine.specs.declared.timed.TaskPolicy.{TaskPolicy}
 use Rattle.wf_machine.specs.declared.timed.TaskPolicy.TheVariants.{Retry, TimeOutWf, AlertOnly}
@@ -21,11 +24,13 @@ use Rattle.wf_rules.specs.declared.acting.Act.TheVariants.{Add, Close, Note, For
 use Rattle.wf_rules.specs.declared.acting.Alert.TheVariants.{Poll, Total}
 use Rattle.wf_rules.specs.declared.acting.Begin.TheVariants.{Queued}
 use Rattle.wf_rules.specs.declared.acting.Child.TheVariants.{Nothing}
-use Rattle.wf_rules.specs.declared.acting.Outcome.TheVariants.{Completed, TimedOut}
-use Rattle.wf_rules.specs.Outputs.{is_too_large}
-use Rattle.wf_rules.specs.Sight.{Scene, sight}
-use Rattle.wf_rules.specs.Acts.{Turn}
-use Rattle.wf_rules.specs.Rules.{pick, choose}
+use Rattle.wf_rules.specs.declared.acting.Outcome.{Outcome}
+use Rattle.wf_rules.specs.declared.acting.Outcome.TheVariants.{Completed, Failed, TimedOut}
+use Rattle.wf_rules.specs.Outputs.{is_too_large, child_output, turns_on}
+use Rattle.wf_rules.specs.Sight.{Scene, Sight, sight}
+use Rattle.wf_rules.specs.Acts.{Turn, make}
+use Rattle.wf_rules.specs.Scheduling.{sub_flow_at, refused_at, child_at}
+use Rattle.wf_rules.specs.Rules.{pick, choose, child_ended}
 
 -- ---- flows
 
@@ -143,10 +148,10 @@ pub failed_optional : (limits : Limits) → wants limits 9 (workflow 0 false (si
 unfolding pick sight last_of node_at
 failed_optional limits = refl
 
--- one that is retried once more, after its delay, with the same input
-pub failed_retried : (limits : Limits) → limits.attempts ≡ 4096 → is_too_large limits Null ≡ false → is_too_large limits empty_table ≡ false
-    → wants limits 9 order (over task.Failed (codes "no") (response 1))
-    ≡ Some (Add (record {
+-- the same work once more, after the delay
+abbrev once_more : Act
+once_more =
+    Add (record {
       node = 0;
       iteration = 0;
       begin = Queued (response 1) 60;
@@ -157,9 +162,18 @@ pub failed_retried : (limits : Limits) → limits.attempts ≡ 4096 → is_too_l
       retried = Some 0;
       turn = 0;
       child = Nothing;
-    }) ∷ [])
+    })
+
+-- a failure and a passed deadline are retried alike
+pub failed_retried : (limits : Limits) → limits.attempts ≡ 4096 → is_too_large limits Null ≡ false → is_too_large limits empty_table ≡ false
+    → wants limits 9 order (over task.Failed (codes "no") (response 1)) ≡ Some (once_more ∷ [])
 unfolding pick sight last_of node_at
 failed_retried limits many input output = rw (many, input, output) refl
+
+pub timed_out_retried : (limits : Limits) → limits.attempts ≡ 4096 → is_too_large limits Null ≡ false → is_too_large limits empty_table ≡ false
+    → wants limits 1500 order (over task.TimedOut (codes "response timeout") (response 1)) ≡ Some (once_more ∷ [])
+unfolding pick sight last_of node_at
+timed_out_retried limits many input output = rw (many, input, output) refl
 
 -- a flow that may run for one second, by both policies
 pub over_time : (limits : Limits) → wants limits 1000 (workflow 1 false (simple 0 false ∷ [])) (polled (response 0)) ≡ Some (End flow.TimedOut (Some (codes "workflow timed out")) None ∷ [])
@@ -175,3 +189,50 @@ pub without_parent : (limits : Limits) → choose limits (alone true) 1 9000 (ru
     ≡ Some (End flow.Terminated (Some (codes "parent ended")) None ∷ [])
 unfolding pick sight last_of
 without_parent limits = refl
+
+-- ---- children, loops, and what an act makes
+
+-- an attempt ends as its child did, with its reason
+abbrev child : FlowStatus → ChildState
+child status = record { flow = record { 0 = 2 }; status = status; output = empty_table; reason = codes "torn" }
+
+abbrev as_child : Outcome → List Act
+as_child outcome = Close 0 outcome (Some (codes "torn")) (Some (child_output 1 (child flow.Completed))) ∷ []
+
+pub child_completed : (limits : Limits) → is_too_large limits (child_output 1 (child flow.Completed)) ≡ false → child_ended limits (alone false) 0 (child flow.Completed) ≡ as_child Completed
+child_completed limits small = rw small refl
+
+pub child_timed_out : (limits : Limits) → is_too_large limits (child_output 1 (child flow.TimedOut)) ≡ false → child_ended limits (alone false) 0 (child flow.TimedOut) ≡ as_child TimedOut
+child_timed_out limits small = rw small refl
+
+pub child_failed : (limits : Limits) → is_too_large limits (child_output 1 (child flow.Failed)) ≡ false → child_ended limits (alone false) 0 (child flow.Failed) ≡ as_child Failed
+child_failed limits small = rw small refl
+
+pub child_terminated : (limits : Limits) → is_too_large limits (child_output 1 (child flow.Terminated)) ≡ false → child_ended limits (alone false) 0 (child flow.Terminated) ≡ as_child Failed
+child_terminated limits small = rw small refl
+
+-- a flow of depth 16 starts none, and one of depth 15 may
+pub too_deep : (limits : Limits) (s : Sight) (n : Node) (def : FlowDef) → limits.nesting ≡ 16 → s.depth ≡ 16
+    → sub_flow_at limits s n 0 (codes "c") (Some def) Null ≡ refused_at n 0 (codes "sub-workflow depth") Null
+too_deep limits s n def most depth = rw (most, depth) refl
+
+pub deep_enough : (limits : Limits) (s : Sight) (n : Node) (def : FlowDef) → limits.nesting ≡ 16 → s.depth ≡ 15
+    → sub_flow_at limits s n 0 (codes "c") (Some def) Null ≡ child_at limits n 0 def Null
+deep_enough limits s n def most depth = rw (most, depth) refl
+
+-- a loop of three turns: there is one more after the second, and none after the third
+pub second_turn : turns_on 2 (Number (pos 3)) Null ≡ true
+second_turn = refl
+
+pub third_turn : turns_on 3 (Number (pos 3)) Null ≡ false
+third_turn = refl
+
+-- an attempt that is closed has ended and changed at that moment
+pub closed_then : (make 1500 (Close 0 TimedOut (Some (codes "response timeout")) None) (running order (polled (response 0)))).flow.attempts
+    ≡ record (polled (response 0)) { status = task.TimedOut; reason = codes "response timeout"; updated = 1500; ended = Some 1500 } ∷ []
+closed_then = refl
+
+-- one that waits and is canceled with its flow keeps its reason
+pub canceled_then : (make 1500 (End flow.TimedOut (Some (codes "workflow timed out")) None) (running order (polled (response 0)))).flow.attempts
+    ≡ record (polled (response 0)) { status = task.Canceled; updated = 1500; ended = Some 1500 } ∷ []
+canceled_then = refl
