@@ -3,7 +3,7 @@
 
     python3 tools/rows.py [--program PATH] [FILE ..]
 
-FILE: files of rows/ (else all of them). PATH: the program (else crates/conductor/out/conductor, which the gate builds).
+FILE: files of rows/, or docs/WORKFLOWS.md (else all of them). PATH: the program (else crates/conductor/out/conductor, which the gate builds).
 The last line is `rows: N passed, M failed`, of scripts and documents; the status is 0 where none failed.
 
 A file NAME.script has runs of `conductor batch`, each from a new store:
@@ -37,6 +37,7 @@ In all files an empty line and one that begins with `//` stand for nothing, as d
 rows/common.names has names for all files. `<N TIMES TEXT>` is the text so many times, with `#` in it counting from 0.
 """
 
+import json
 import pathlib
 import re
 import subprocess
@@ -45,11 +46,12 @@ from dataclasses import dataclass, field
 
 ROOT = pathlib.Path(__file__).resolve().parent.parent
 ROWS = ROOT / "rows"
+WORKFLOWS = ROOT / "docs" / "WORKFLOWS.md"
 PROGRAM = ROOT / "crates" / "conductor" / "out" / "conductor"
 SECONDS = 120
 
 # What a task says that isn't said otherwise: the first of the first flow, scheduled at the moment 0. A value that is a text
-# is written without its quotes.
+# is written without its quotes. What is None isn't written unless it is said; the type is that of a SIMPLE task.
 TASK = {
     "callbackAfterSeconds": "0",
     "endTime": "0",
@@ -59,10 +61,12 @@ TASK = {
     "pollCount": "0",
     "reasonForIncompletion": "",
     "referenceTaskName": "a",
+    "retriedTaskId": None,
     "retryCount": "0",
     "scheduledTime": "0",
     "startTime": "0",
     "status": "SCHEDULED",
+    "subWorkflowId": None,
     "taskDefName": "pick",
     "taskId": "00000001-0200-8000-8000-000000000001",
     "taskType": None,
@@ -78,10 +82,12 @@ FLOW = {
     "endTime": "0",
     "input": "{}",
     "output": "{}",
+    "parentWorkflowId": None,
+    "parentWorkflowTaskId": None,
     "reasonForIncompletion": "",
     "startTime": "0",
     "status": "RUNNING",
-    "tasks": None,
+    "tasks": "",
     "variables": "{}",
     "workflowId": "00000001-0100-8000-8000-000000000001",
     "workflowName": "order",
@@ -90,9 +96,13 @@ FLOW = {
 
 TEXTS = {
     "correlationId",
+    "parentWorkflowId",
+    "parentWorkflowTaskId",
     "reasonForIncompletion",
     "referenceTaskName",
+    "retriedTaskId",
     "status",
+    "subWorkflowId",
     "taskDefName",
     "taskId",
     "taskType",
@@ -201,6 +211,26 @@ def repeated(text):
     return re.sub(r"<(\d+) TIMES ([^<>]*)>", times, text)
 
 
+def source(path):
+    """The lines of a file. Of a text with blocks of code, those of its blocks `rows`, each line at its own number; a block
+    `json` before them gives the name <DEFINITION> to its document, written in one line."""
+    lines = path.read_text(encoding="utf-8").split("\n")
+    if path.suffix != ".md":
+        return lines
+    taken, kind, first = [""] * len(lines), None, 0
+    for place, line in enumerate(lines):
+        if kind is None and line.startswith("```"):
+            kind, first = line[3:], place + 1
+        elif line == "```":
+            if kind == "json":
+                document = json.loads("\n".join(lines[first:place]))
+                taken[first] = "let <DEFINITION> " + json.dumps(document, separators=(",", ":"))
+            elif kind == "rows":
+                taken[first:place] = lines[first:place]
+            kind = None
+    return taken
+
+
 class Names:
     """Names in angle brackets, and the texts that they stand for."""
 
@@ -214,7 +244,7 @@ class Names:
 
     def lines(self, path):
         """The lines of a file with their numbers, names replaced and definitions of names taken in."""
-        lines = path.read_text(encoding="utf-8").split("\n")
+        lines = source(path)
         place = 0
         while place < len(lines):
             line, number = lines[place], place + 1
@@ -252,13 +282,14 @@ def document(form, words, tasks=""):
     said = {"tasks": f"[{tasks}]"}
     for word in words.split(", ") if words else []:
         key, _, value = word.partition("=")
-        if key not in form or form[key] is None:
+        if key not in form or key == "tasks":
             raise Malformed(f"no key {key}")
         said[key] = value
     values = {**form, **said}
-    if "taskType" in form:
+    if "taskType" in form and values["taskType"] is None:
         values["taskType"] = values["taskDefName"]
-    quoted = ((key, f'"{values[key]}"' if key in TEXTS else values[key]) for key in form)
+    written = (key for key in form if values[key] is not None)
+    quoted = ((key, f'"{values[key]}"' if key in TEXTS else values[key]) for key in written)
     return "{" + ",".join(f'"{key}":{value}' for key, value in quoted) + "}"
 
 
@@ -437,6 +468,11 @@ def reply_at(output, start, sent):
     return output[start : start + len(head) + len(mark) + size]
 
 
+def shown_path(path):
+    path = path.resolve()
+    return path.relative_to(ROOT) if path.is_relative_to(ROOT) else path
+
+
 def shown(data):
     return "      " + data.decode(errors="replace").replace("\r\n", "\n").rstrip("\n").replace("\n", "\n      ")
 
@@ -451,13 +487,13 @@ def difference(script, output):
             longest = min(len(each.reply), len(output) - start)
             place = next((i for i in range(longest) if each.reply[i] != output[start + i]), longest)
             return (
-                f"rows/{script.path.name}:{each.line}: {script.name}\n"
+                f"{shown_path(script.path)}:{each.line}: {script.name}\n"
                 f"    sent\n{shown(each.sent.encode())}\n    wanted\n{shown(each.reply)}\n    got\n{shown(got)}\n"
                 f"    byte {place} of the reply differs, byte {start + place} of the output"
             )
         start = end
     if len(output) > start:
-        return f"rows/{script.path.name}:{script.line}: {script.name}\n    more is written than is wanted\n{shown(output[start:])}"
+        return f"{shown_path(script.path)}:{script.line}: {script.name}\n    more is written than is wanted\n{shown(output[start:])}"
     return None
 
 
@@ -472,7 +508,7 @@ def judged(program, script):
     if status == ENDS[script.end] and ends_so:
         return None
     return (
-        f"rows/{script.path.name}:{script.line}: {script.name}\n"
+        f"{shown_path(script.path)}:{script.line}: {script.name}\n"
         f"    must end with status {ENDS[script.end]}: {wanted_end.rstrip() or 'nothing said'}\n"
         f"    ended with status {status}: {said.rstrip() or 'nothing said'}"
     )
@@ -508,7 +544,7 @@ def judged_case(program, case):
     if output == f"{case.answer}\n".encode() and status == wanted_status:
         return None
     return (
-        f"rows/{case.path.name}:{case.line}: {case.document[:300]}\n"
+        f"{shown_path(case.path)}:{case.line}: {case.document[:300]}\n"
         f"    wanted {case.answer!r} and status {wanted_status}\n"
         f"    got {output.decode(errors='replace').rstrip(chr(10))!r} and status {status}"
     )
@@ -521,7 +557,7 @@ def asked():
         program, words = pathlib.Path(words[1]), words[2:]
     if any(word.startswith("-") for word in words):
         sys.exit(__doc__)
-    files = [pathlib.Path(word) for word in words] or sorted([*ROWS.glob("*.script"), *ROWS.glob("*.check")])
+    files = [pathlib.Path(word) for word in words] or [*sorted([*ROWS.glob("*.script"), *ROWS.glob("*.check")]), WORKFLOWS]
     return program, files
 
 

@@ -9,10 +9,9 @@ use Rattle.wf_wire.specs.Items.{IsMessage, IsStop, IsNext, Leads, Coming}
 use Rattle.wf_wire.specs.Request.{Request, closes}
 use Rattle.wf_machine.specs.declared.calling.Reply.{Reply}
 use Rattle.wf_machine.specs.State.{State}
-use Rattle.wf_machine.specs.History.{stored}
+use Rattle.wf_steps.specs.History.{stored}
 use Rattle.wf_rest.specs.Moments.{moment_at}
-use Rattle.wf_rest.specs.Serving.{call_of}
-use Rattle.wf_rest.specs.Serving.{Answered, IsAsked, ends_closed, moment_after, requests, served, wire}
+use Rattle.wf_rest.specs.Serving.{call_of, Answered, IsAsked, ends_closed, moment_after, requests, served, wire}
 use Rattle.wf_rest.proofs.ServingLemmas.{legal_more, moment-more, state_more, wire-more}
 use Rattle.conductor.specs.declared.status.Status.{Status}
 use Rattle.conductor.specs.declared.status.Status.TheVariants.{Done, NoMemory, Usage, ReadFault, WriteFault, BadFrame, Cut, LongInput, TooLarge, Invalid}

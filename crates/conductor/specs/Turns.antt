@@ -7,10 +7,9 @@ use Rattle.wf_wire.specs.Items.{IsMessage, IsStop, Leads}
 use Rattle.wf_wire.specs.Request.{Request, closes}
 use Rattle.wf_machine.specs.declared.calling.Reply.{Reply}
 use Rattle.wf_machine.specs.State.{State}
-use Rattle.wf_machine.specs.History.{stored, state_after}
+use Rattle.wf_steps.specs.History.{stored, state_after}
 use Rattle.wf_rest.specs.Moments.{moment_at}
-use Rattle.wf_rest.specs.Serving.{call_of}
-use Rattle.wf_rest.specs.Serving.{Answered, IsAsked, IsLegal, answer_bytes, history_of, moment_after, requests, wire}
+use Rattle.wf_rest.specs.Serving.{call_of, Answered, IsAsked, IsLegal, answer_bytes, history_of, moment_after, requests, wire}
 use Rattle.conductor.specs.declared.status.Status.{Status}
 use Rattle.conductor.specs.declared.status.Status.TheVariants.{Done, NoMemory, ReadFault, WriteFault, BadFrame, Cut, LongInput, TooLarge}
 use Rattle.conductor.specs.declared.batch.Turn.{Turn}

@@ -4,7 +4,7 @@ ghost use Rattle.std.specs.Prelude.{◌≡◌, ◌≢◌, ◌<◌, ◌≤◌, �
 ghost use Rattle.std.specs.Result.{result_ok};
 ghost use Rattle.wf_wire.specs.Stream.{Rose};
 ghost use Rattle.wf_wire.specs.Items.{Coming};
-ghost use Rattle.wf_machine.specs.Calls.{IsProper};
+ghost use Rattle.wf_steps.specs.Calls.{IsProper};
 ghost use Rattle.wf_machine.specs.Replies.{IsPrintable};
 ghost use Rattle.wf_rest.specs.Moments.{moment_at};
 ghost use Rattle.wf_machine.specs.Records.{IsMoment};

@@ -2,8 +2,8 @@
 #![tactic(auto)]
 
 #[cfg(test)]
-mod decide;
-#[cfg(test)]
 mod kept;
 #[cfg(test)]
 mod machine;
+#[cfg(test)]
+mod templates;

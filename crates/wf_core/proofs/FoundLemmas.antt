@@ -5,13 +5,16 @@ use Rattle.std.specs.List.{All}
 use Rattle.std.proofs.lemmas.List.Elements.{All-head, All-tail}
 use Rattle.std.specs.Option.{option_map_or}
 use Rattle.wf_machine.specs.State.{Attempt, Flow, Kept, RisingTo, State, attempt_numbered, is_numbered}
-use Rattle.wf_machine.specs.Calls.{flow_numbered, is_flow}
+use Rattle.wf_machine.specs.Flows.{flow_numbered, is_flow}
 use Rattle.wf_machine.specs.Marks.{node_at}
 use Rattle.wf_machine.specs.Queues.{Waiting, all_waiting, comes_before, earlier, first_waiting, is_ready, next_waiting, runs_task, waiting_in}
 use Rattle.wf_machine.specs.Records.{Each, is_scheduled}
 use Rattle.wf_kept.specs.Flows.{AreAttemptsBelow, flow_number}
 use Rattle.wf_kept.specs.Rising.{RisesTo}
+use Rattle.std.specs.List.{find}
 use Rattle.wf_core.specs.Found.{with_waiting}
+use Rattle.wf_core.specs.Grown.{IsChanged}
+use Rattle.wf_kept.proofs.SearchLemmas.{found_itself}
 
 -- ---- the first of two lists
 
@@ -146,3 +149,31 @@ pub flows_more : (name : List ℕ) (e : ℕ) (best whole : Option Waiting) (k : 
 flows_more name e best whole k rest so =
     earlier_assoc best (first_waiting (waiting_in name e k.flow)) (first_waiting (all_waiting name e rest))
     ∙ ap (earlier best) (sym (first_append (waiting_in name e k.flow) (all_waiting name e rest))) ∙ so
+
+-- ---- kept flows that a search finds
+
+all_found : (P : Kept → Type 0) (p : Kept → Bool) (ks : List Kept) (k : Kept) → All P ks → find p ks ≡ Some k → P k
+all_found P p [] k all found = cc
+all_found P p (x ∷ ks) k all found = by_test (p x) found (all_found P p ks k (All-tail P x ks all)) where
+  by_test : (b : Bool) → (if b then Some x else find p ks) ≡ Some k → (find p ks ≡ Some k → P k) → P k
+  by_test true found on = let same : x ≡ k = cc in subst P same (All-head P x ks all)
+  by_test false found on = on found
+
+pub found_passes : (p : Kept → Bool) (ks : List Kept) (k : Kept) → find p ks ≡ Some k → p k ≡ true
+found_passes p [] k found = cc
+found_passes p (x ∷ ks) k found = by_test (p x) refl found (found_passes p ks k) where
+  by_test : (b : Bool) → p x ≡ b → (if b then Some x else find p ks) ≡ Some k → (find p ks ≡ Some k → p k ≡ true) → p k ≡ true
+  by_test true is found on = let same : x ≡ k = cc in ap p (sym same) ∙ is
+  by_test false is found on = on found
+
+-- a kept flow is one that may be changed
+pub kept_changed : (s : State) (p : Kept → Bool) (k : Kept) (f : Flow) → RisesTo flow_number 1 s.next_flow s.flows → All (AreAttemptsBelow s.next_task) s.flows
+    → find p s.flows ≡ Some k → f ≡ k.flow → IsChanged f s
+kept_changed s p k f rises below found same =
+    subst (λ (g : Flow). IsChanged g s) (sym same)
+    (record {
+      old = k;
+      found = found_itself flow_number 1 s.next_flow p s.flows k rises found;
+      numbers = refl;
+      rising = all_found (AreAttemptsBelow s.next_task) p s.flows k below found;
+    })

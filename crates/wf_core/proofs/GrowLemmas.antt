@@ -1,32 +1,26 @@
 -- Attempts that grow: by acts, by results and by hand-outs.
-use Rattle.std.proofs.Common.{◌≡◌, ℕ, ◌+◌, ◌<◌, ◌≤◌, Bool, true, false, if◌then◌else◌, List, [], ◌∷◌, ◌++◌, map, length, ◌^◌, Some, Result, Ok, IsSomeAnd, refl, sym, ap, ◌∙◌, append_assoc, subst, arith}
+use Rattle.std.proofs.Common.{◌≡◌, ℕ, ◌+◌, ◌≤◌, Bool, true, false, if◌then◌else◌, List, [], ◌∷◌, ◌++◌, map, length, ◌^◌, Some, Result, Ok, Err, IfOk, IsSomeAnd, refl, sym, ap, ◌∙◌, subst, arith}
 use Rattle.std.proofs.lemmas.Bool.Decides.{nat_tests}
-use Rattle.std.proofs.lemmas.List.{append-nil, length-append, length-map, map-append}
+use Rattle.std.proofs.lemmas.List.{append-nil, length-append, length-map}
 use Rattle.wf_names.specs.declared.ids.TaskNo.{TaskNo}
 use Rattle.wf_names.specs.TaskStatus.{task_is_open}
-use Rattle.wf_names.specs.declared.statuses.TaskStatus.TheVariants.{Canceled}
-use Rattle.wf_machine.specs.declared.acting.Act.{Act}
-use Rattle.wf_machine.specs.declared.acting.Act.TheVariants.{Add, End}
-use Rattle.wf_machine.specs.State.{Attempt, Flow, RisingTo, attempt_numbered, canceled, is_numbered, with_attempt}
-use Rattle.wf_machine.specs.Rules.{Turn, begun, make, made}
-use Rattle.wf_machine.proofs.MakeLemmas.{rising_added, rising_length}
-use Rattle.wf_kept.specs.Flows.{FlowTable, IsGrown, attempt_number}
+use Rattle.wf_machine.specs.State.{Attempt, Flow, RisingTo, attempt_numbered, is_numbered, with_attempt, Kept, State}
+use Rattle.wf_rules.specs.Acts.{Turn}
+use Rattle.wf_turn.specs.Growing.{AreMoreAttempts, AreNewFlows, IsLaterTurn}
+use Rattle.wf_rules.proofs.MakeLemmas.{rising_length}
+use Rattle.wf_kept.specs.Flows.{AreStarted, FlowTable, IsGrown, attempt_number}
 use Rattle.wf_names.specs.declared.refusals.Refusal.{Refusal}
 use Rattle.wf_machine.specs.declared.calling.TaskResult.{TaskResult}
-use Rattle.wf_machine.specs.State.{Kept}
-use Rattle.wf_machine.specs.Calls.{flow_numbered}
+use Rattle.wf_machine.specs.Flows.{flow_numbered}
 use Rattle.wf_machine.specs.Records.{is_kind_at, is_simple}
 use Rattle.wf_machine.specs.Tasks.{result_applied, takes_update}
 use Rattle.wf_flow.specs.Changes.{update_answer}
 use Rattle.wf_core.specs.Changes.{IsNewFlow, IsOldFlow}
-use Rattle.wf_core.specs.Grown.{IsGrowing}
-
-numbers-canceled : (e : ℕ) (xs : List Attempt) → map attempt_number (map (canceled e) xs) ≡ map attempt_number xs
-numbers-canceled e [] = refl
-numbers-canceled e (x ∷ xs) = rw (numbers-canceled e xs) (by_open (task_is_open x.status)) where
-  by_open : (b : Bool) → attempt_number (if b then record x { status = Canceled; updated = e; ended = Some e } else x) ∷ map attempt_number xs ≡ attempt_number x ∷ map attempt_number xs
-  by_open true = refl
-  by_open false = refl
+use Rattle.wf_flow.specs.Room.{FlowRoom}
+use Rattle.wf_names.specs.declared.ids.FlowNo.{FlowNo}
+use Rattle.wf_core.specs.declared.change.Decided.{Decided}
+use Rattle.wf_core.specs.Grown.{IsChanged, IsTold}
+use Rattle.wf_core.proofs.DecidedLemmas.{told_next}
 
 rising-numbers : (low high : ℕ) (xs ys : List Attempt) → map attempt_number xs ≡ map attempt_number ys → RisingTo low high xs → RisingTo low high ys
 rising-numbers low high [] [] same h = h
@@ -41,42 +35,24 @@ rising-numbers low high (x ∷ xs) (y ∷ ys) same h =
 pub grown_none : (xs : List Attempt) (n : ℕ) → IsGrown xs xs n n
 grown_none xs n = record { first = xs; more = []; is = sym (append-nil xs); numbers = refl; rising = omega arith }
 
--- ---- acts
+-- ---- what a decision left
 
-grown_act : (e low : ℕ) (old : List Attempt) (act : Act) (t : Turn) → IsGrown old t.flow.attempts low t.next_task → IsGrown old (make e act t).flow.attempts low (make e act t).next_task
-grown_act e low old (Add n) t h = record {
-  first = h.first;
-  more = h.more ++ begun e n t.next_task ∷ [];
-  is = ap (λ xs. xs ++ begun e n t.next_task ∷ []) h.is ∙ append_assoc h.first h.more (begun e n t.next_task ∷ []);
-  numbers = h.numbers;
-  rising = rising_added low t.next_task h.more (begun e n t.next_task) h.rising (omega arith);
-}
-grown_act e low old (End status reason output) t h = record {
-  first = map (canceled e) h.first;
-  more = map (canceled e) h.more;
-  is = ap (map (canceled e)) h.is ∙ map-append (canceled e) h.first h.more;
-  numbers = numbers-canceled e h.first ∙ h.numbers;
-  rising = rising-numbers low t.next_task h.more (map (canceled e) h.more) (sym (numbers-canceled e h.more)) h.rising;
-}
+pub later_grown : (old new : List Attempt) (low high : ℕ) → AreMoreAttempts old new low high → IsGrown old new low high
+later_grown old new low high h = record { first = h.first; more = h.more; is = h.is; numbers = h.numbers; rising = h.rising }
 
-grown_acts : (e low : ℕ) (old : List Attempt) (acts : List Act) (t : Turn) → IsGrown old t.flow.attempts low t.next_task → IsGrown old (made e acts t).flow.attempts low (made e acts t).next_task
-grown_acts e low old [] t h = h
-grown_acts e low old (act ∷ rest) t h = grown_acts e low old rest (make e act t) (grown_act e low old act t h)
+new_started : (number : ℕ) (fs : List Flow) → AreNewFlows number fs → AreStarted number fs
+new_started number [] h = tt
+new_started number (f ∷ fs) h = (h.0, h.1, new_started (number + 1) fs h.2)
 
-number_act : (e : ℕ) (act : Act) (t : Turn) → (make e act t).flow.number ≡ t.flow.number
-number_act e (Add n) t = refl
-number_act e (End status reason output) t = refl
+-- the flows that it started, where there was none before
+told_all : (start turn : Turn) (d : Decided) → start.children ≡ [] → (later : IsLaterTurn start turn) → IsTold turn d → map (λ (f : FlowRoom). f.flow) d.started.items ≡ later.children.more
+told_all start turn d none later told = told.started ∙ later.children.is ∙ ap (λ fs. fs ++ later.children.more) none
 
-number_acts : (e : ℕ) (acts : List Act) (t : Turn) → (made e acts t).flow.number ≡ t.flow.number
-number_acts e [] t = refl
-number_acts e (act ∷ rest) t = number_acts e rest (make e act t) ∙ number_act e act t
-
--- what acts make of a flow has grown from it
-pub growing_made : (e : ℕ) (acts : List Act) (t u : Turn) → u ≡ made e acts t → IsGrowing t.flow u.flow t.next_task u.next_task
-growing_made e acts t u is = rw is (record {
-  number = number_acts e acts t;
-  attempts = grown_acts e t.next_task t.flow.attempts acts t (grown_none t.flow.attempts t.next_task);
-})
+told_started_from : (number : ℕ) (start turn : Turn) (d : Decided) → start.children ≡ [] → start.next_flow ≡ number → IsLaterTurn start turn → IsTold turn d
+    → AreStarted number (map (λ (f : FlowRoom). f.flow) d.started.items)
+told_started_from number start turn d none next later told =
+    subst (λ fs. AreStarted number fs) (sym (told_all start turn d none later told))
+    (subst (λ n. AreStarted n later.children.more) next (new_started start.next_flow later.children.more later.children.fresh))
 
 -- ---- one attempt is changed
 
@@ -135,30 +111,58 @@ grown_new xs low high h = by_first h.first h.numbers h.is where
   by_first [] none is = subst (RisingTo low high) (sym is) h.rising
   by_first (x ∷ first) none is = absurd cc
 
-pub new_ready : (t : FlowTable) (flow : Flow) (next : ℕ) → flow.number.0 ≡ t.next_flow → t.next_flow < 2 ^ 56
-    → IsGrown [] flow.attempts t.next_task next → next ≤ 2 ^ 56 → 0 < t.spare_flows → next ≤ t.spare_tasks + t.next_task
-    → IsNewFlow t flow next
-new_ready t flow next number left grown limit flows tasks =
-    let more = grown_length [] flow.attempts t.next_task next grown in
+pub new_ready : (t : FlowTable) (start turn : Turn) (d : Decided) → start.flow.attempts ≡ [] → start.children ≡ [] → start.flow.number.0 ≡ t.next_flow → start.next_flow ≡ t.next_flow + 1
+    → start.next_task ≡ t.next_task → IsLaterTurn start turn → IsTold turn d → turn.next_task ≤ 2 ^ 56 → turn.next_flow ≤ 2 ^ 56
+    → 1 + length d.started.items ≤ t.spare_flows → d.next_task ≤ t.spare_tasks + t.next_task → IsNewFlow t d
+new_ready t start turn d empty none number next task later told tasks flows room_flows room_tasks =
+    let attempts : IsGrown [] d.flow.flow.attempts t.next_task d.next_task =
+    subst (λ (f : Flow). IsGrown [] f.attempts t.next_task d.next_task) (sym told.flow)
+    (subst (λ n. IsGrown [] turn.flow.attempts t.next_task n) (sym told.next_task)
+    (subst (λ n. IsGrown [] turn.flow.attempts n turn.next_task) task
+    (subst (λ xs. IsGrown xs turn.flow.attempts start.next_task turn.next_task) empty (later_grown start.flow.attempts turn.flow.attempts start.next_task turn.next_task later.attempts)))) in
+    let more = grown_length [] d.flow.flow.attempts t.next_task d.next_task attempts in
+    let count = told_next start turn d none later told in
+    let last = told.next_task in
     record {
-      number = number;
-      numbers_left = left;
-      attempts = grown_new flow.attempts t.next_task next grown;
-      limit = limit;
-      room_flows = flows;
-      room_tasks = omega (arith, tasks, more);
+      number = ap (λ (f : Flow). f.number.0) told.flow ∙ ap (λ (n : FlowNo). n.0) later.number ∙ number;
+      attempts = grown_new d.flow.flow.attempts t.next_task d.next_task attempts;
+      limit = omega (arith, tasks, last);
+      started = told_started_from (t.next_flow + 1) start turn d none next later told;
+      numbers_left = omega (arith, count, flows, next);
+      room_flows = room_flows;
+      room_tasks = omega (arith, room_tasks, more);
     }
 
-pub old_ready : (t : FlowTable) (old : Kept) (flow : Flow) (next : ℕ) → flow_numbered flow.number t.kept ≡ Some old
-    → IsGrown old.flow.attempts flow.attempts t.next_task next → next ≤ 2 ^ 56 → next ≤ t.spare_tasks + t.next_task
-    → IsOldFlow t flow next
-old_ready t old flow next found grown limit tasks =
-    let more = grown_length old.flow.attempts flow.attempts t.next_task next grown in
+-- a kept flow has grown, and has started flows
+pub grown_ready : (t : FlowTable) (old : Kept) (d : Decided) → flow_numbered d.flow.flow.number t.kept ≡ Some old → IsGrown old.flow.attempts d.flow.flow.attempts t.next_task d.next_task
+    → d.next_task ≤ 2 ^ 56 → AreStarted t.next_flow (map (λ (f : FlowRoom). f.flow) d.started.items) → t.next_flow + length d.started.items ≤ 2 ^ 56
+    → length d.started.items ≤ t.spare_flows → d.next_task ≤ t.spare_tasks + t.next_task → IsOldFlow t d
+grown_ready t old d found grown limit started left room_flows room_tasks =
+    let more = grown_length old.flow.attempts d.flow.flow.attempts t.next_task d.next_task grown in
     record {
       grown = record { old = old; found = found; grown = grown };
       limit = limit;
-      room = rw found (omega (arith, tasks, more));
+      started = started;
+      numbers_left = left;
+      room_flows = room_flows;
+      room_tasks = rw found (omega (arith, room_tasks, more));
     }
+
+pub old_ready : (t : FlowTable) (old : Kept) (start turn : Turn) (d : Decided) → flow_numbered start.flow.number t.kept ≡ Some old
+    → map attempt_number start.flow.attempts ≡ map attempt_number old.flow.attempts → start.children ≡ [] → start.next_flow ≡ t.next_flow → start.next_task ≡ t.next_task
+    → IsLaterTurn start turn → IsTold turn d → turn.next_task ≤ 2 ^ 56 → turn.next_flow ≤ 2 ^ 56 → length d.started.items ≤ t.spare_flows → d.next_task ≤ t.spare_tasks + t.next_task
+    → IsOldFlow t d
+old_ready t old start turn d found numbers none next task later told tasks flows room_flows room_tasks =
+    let h = later.attempts in
+    let grown : IsGrown old.flow.attempts turn.flow.attempts start.next_task turn.next_task = record { first = h.first; more = h.more; is = h.is; numbers = h.numbers ∙ numbers; rising = h.rising } in
+    let here : IsGrown old.flow.attempts d.flow.flow.attempts t.next_task d.next_task =
+    subst (λ (f : Flow). IsGrown old.flow.attempts f.attempts t.next_task d.next_task) (sym told.flow)
+    (subst (λ n. IsGrown old.flow.attempts turn.flow.attempts t.next_task n) (sym told.next_task)
+    (subst (λ n. IsGrown old.flow.attempts turn.flow.attempts n turn.next_task) task grown)) in
+    let count = told_next start turn d none later told in
+    let last = told.next_task in
+    grown_ready t old d (ap (λ (f : Flow). flow_numbered f.number t.kept) told.flow ∙ ap (λ n. flow_numbered n t.kept) later.number ∙ found) here (omega (arith, tasks, last))
+    (told_started_from t.next_flow start turn d none next later told) (omega (arith, count, flows, next)) room_flows room_tasks
 
 -- ---- an attempt takes a result
 
@@ -173,3 +177,23 @@ pub result_taken : (task : TaskNo) (e : ℕ) (outcome : TaskResult) (flow new : 
 result_taken task e outcome flow new a r there is_open takes answer applied =
     let ok : r ≡ Ok true = answer ∙ ap (update_answer flow.def) there ∙ rw (is_open, takes) refl in
     subst (λ o. IsSomeAnd o (λ a. new ≡ with_result e outcome flow a)) there (applied ok)
+
+-- what an attempt's result makes of a kept flow
+pub result_changed : (task : TaskNo) (e : ℕ) (outcome : TaskResult) (f : Flow) (a : Attempt) (s : State) (old : Kept) → flow_numbered f.number s.flows ≡ Some old → old.flow ≡ f
+    → RisingTo 1 s.next_task f.attempts → IsChanged (with_result e outcome f a) s
+result_changed task e outcome f a s old found same rising =
+    let b = result_applied e (is_kind_at is_simple f.def a.node) outcome a in
+    record {
+      old = old;
+      found = found;
+      numbers = numbers-with b f.attempts ∙ ap (λ (g : Flow). map attempt_number g.attempts) (sym same);
+      rising = rising_with_to 1 s.next_task b f.attempts rising;
+    }
+
+-- what holds of each result holds of the one that there is
+pub if_ok : {A E : Type 0} (P Q : A → Type 0) (r : Result A E) → ((x : A) → P x → Q x) → IfOk r P → IfOk r Q
+if_ok P Q (Ok x) f h = f x h
+if_ok P Q (Err e) f h = tt
+
+pub none_started : (number : ℕ) (d : Decided) → d.started.items ≡ [] → AreStarted number (map (λ (f : FlowRoom). f.flow) d.started.items)
+none_started number d none = subst (λ (xs : List FlowRoom). AreStarted number (map (λ (f : FlowRoom). f.flow) xs)) (sym none) tt

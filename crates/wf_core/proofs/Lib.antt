@@ -1,3 +1,5 @@
 pub mod GrowLemmas
 pub mod FoundLemmas
 mod MadeLemmas
+pub mod BesideLemmas
+pub mod DecidedLemmas

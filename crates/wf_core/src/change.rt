@@ -18,11 +18,21 @@ pub enum Touched {
     FlowDefs(Vec<Definition>),
     /// The workflow of that name and version is forgotten.
     NoFlowDef(Text, u32),
-    /// The flow is kept, under the next number; then the next number of an attempt is this one.
-    NewFlow(FlowRecord, u64),
-    /// The kept flow of its number becomes this one; then the next number of an attempt is this one. Where a name is
-    /// given, a hand-out of that name is noted.
-    Flow(FlowRecord, u64, Option<Text>),
+    /// The flow is kept, under the next number, and then those that it started.
+    NewFlow(Decided),
+    /// The kept flow of its number becomes this one, and those that it started are kept. Where a name is given, a hand-out
+    /// of that name is noted.
+    Flow(Decided, Option<Text>),
+}
+
+/// A flow as it is from now on.
+#[derive(Drop)]
+pub struct Decided {
+    pub flow: FlowRecord,
+    /// The flows that it started, by rising number.
+    pub started: Vec<FlowRecord>,
+    /// The number of the next attempt from now on.
+    pub next_task: u64,
 }
 
 /// A change that is ready to be made: what it touches, at which moment, and the reply to the call.

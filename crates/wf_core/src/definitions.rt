@@ -1,7 +1,7 @@
 //! Reads of what is registered.
 
 ghost use Rattle.std.specs.Prelude.{◌≡◌, IfOk, map};
-ghost use Rattle.wf_machine.specs.Calls.{get_flow_def, get_flow_defs, get_task_def, get_task_defs};
+ghost use Rattle.wf_steps.specs.Calls.{get_flow_def, get_flow_defs, get_task_def, get_task_defs};
 ghost use Rattle.wf_core.specs.Changes.{IsPrepared};
 
 use crate::change::Change;
@@ -24,7 +24,7 @@ impl Core {
         Ok(Change::none(Reply::Json(Doc::List(docs))))
     }
 
-    #[tactic(auto, unfolding(wf_machine::specs::Calls::get_task_def))]
+    #[tactic(auto, unfolding(wf_steps::specs::Calls::get_task_def))]
     pub(crate) fn prepare_task_def(
         &mut self,
         alloc: Global,
@@ -51,7 +51,7 @@ impl Core {
         Ok(Change::none(Reply::Json(Doc::List(docs))))
     }
 
-    #[tactic(auto, unfolding(wf_machine::specs::Calls::get_flow_def))]
+    #[tactic(auto, unfolding(wf_steps::specs::Calls::get_flow_def))]
     pub(crate) fn prepare_flow_def(
         &mut self,
         alloc: Global,

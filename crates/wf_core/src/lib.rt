@@ -5,7 +5,9 @@
 //! whole or not at all.
 #![tactic(auto)]
 
+mod beside;
 mod change;
+mod decides;
 mod deciding;
 mod definitions;
 pub mod laws;
@@ -18,6 +20,6 @@ mod starts;
 mod steps;
 mod updates;
 
-pub use change::{Change, Touched};
+pub use change::{Change, Decided, Touched};
 pub use no_memory::NoMemory;
 pub use steps::Core;

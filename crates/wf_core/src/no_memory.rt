@@ -36,7 +36,7 @@ impl From<wf_flow::NoMemory> for NoMemory {
     }
 }
 
-impl From<wf_decide::NoMemory> for NoMemory {
+impl From<wf_setting::NoMemory> for NoMemory {
     fn from(_refused: wf_decide::NoMemory) -> NoMemory {
         NoMemory
     }

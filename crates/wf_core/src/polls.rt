@@ -3,7 +3,7 @@
 ghost use Rattle.std.specs.Prelude.{◌≡◌, ◌+◌, true, false, option_map, IfOk, Some};
 ghost use Rattle.std.specs.Option.{option_map_or};
 ghost use Rattle.wf_machine.specs.Marks.{node_at};
-ghost use Rattle.wf_machine.specs.Calls.{hand_over, poll};
+ghost use Rattle.wf_steps.specs.Calls.{hand_over, poll};
 ghost use Rattle.wf_machine.specs.Queues as spec;
 ghost use Rattle.wf_machine.specs.Records.{IsMoment};
 ghost use Rattle.wf_machine.specs.State.{Attempt as SeenAttempt, attempt_numbered};
@@ -12,7 +12,7 @@ ghost use Rattle.wf_core.specs.Changes.{IsPrepared};
 ghost use Rattle.wf_core.specs.Found.{comes_first, with_waiting};
 ghost use Rattle.wf_core.specs.Grown.{IsOffered};
 
-use crate::change::{Change, Touched};
+use crate::change::{Change, Decided, Touched};
 use crate::no_memory::NoMemory;
 use crate::reads::task_reply;
 use crate::steps::Core;
@@ -24,7 +24,7 @@ use wf_machine::{NodeKind, Reply};
 use wf_names::{TaskNo, TaskStatus};
 
 impl Core {
-    #[tactic(auto, unfolding(wf_machine::specs::Calls::poll))]
+    #[tactic(auto, unfolding(wf_steps::specs::Calls::poll))]
     pub(crate) fn prepare_poll(
         &mut self,
         alloc: Global,
@@ -69,10 +69,15 @@ impl Core {
         self.hands.reserve(alloc, name.as_str())?;
         flow.hand_out(task, worker, moment);
         let reply = task_reply(alloc, self.mark, &flow, task)?;
-        let next_task = self.flows.next_task();
+        let _next_flow = self.flows.next_flow();
+        let changed = Decided {
+            flow,
+            started: Vec::new(alloc),
+            next_task: self.flows.next_task(),
+        };
         Ok(Change {
             moment,
-            touched: Touched::Flow(flow, next_task, Some(name)),
+            touched: Touched::Flow(changed, Some(name)),
             reply,
         })
     }

@@ -2,7 +2,7 @@
 
 ghost use Rattle.std.specs.Prelude.{◌≡◌, ◌+◌, IfOk};
 ghost use Rattle.std.specs.Option.{option_map_or};
-ghost use Rattle.wf_machine.specs.Calls.{get_flow, get_task};
+ghost use Rattle.wf_steps.specs.Calls.{get_flow, get_task};
 ghost use Rattle.wf_machine.specs.Documents.{task_document};
 ghost use Rattle.wf_machine.specs.Replies.{IsPrintable};
 ghost use Rattle.wf_machine.specs.State.{attempt_numbered};
@@ -18,7 +18,7 @@ use wf_machine::Reply;
 use wf_names::{FlowNo, Refusal, TaskNo};
 
 impl Core {
-    #[tactic(auto, unfolding(wf_machine::specs::Calls::get_flow))]
+    #[tactic(auto, unfolding(wf_steps::specs::Calls::get_flow))]
     pub(crate) fn prepare_read(
         &mut self,
         alloc: Global,
@@ -39,7 +39,7 @@ impl Core {
         }
     }
 
-    #[tactic(auto, unfolding(wf_machine::specs::Calls::get_task))]
+    #[tactic(auto, unfolding(wf_steps::specs::Calls::get_task))]
     pub(crate) fn prepare_task_read(
         &mut self,
         alloc: Global,

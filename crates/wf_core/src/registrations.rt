@@ -1,7 +1,7 @@
 //! Registrations of tasks and of workflows.
 
 ghost use Rattle.std.specs.Prelude.{◌≡◌, ◌+◌, ◌∷◌, [], IfOk};
-ghost use Rattle.wf_machine.specs.Calls.{drop_flow_def, drop_task_def, put_flow_defs, put_task_defs, register, update_task_def};
+ghost use Rattle.wf_steps.specs.Calls.{drop_flow_def, drop_task_def, put_flow_defs, put_task_defs, register, update_task_def};
 ghost use Rattle.wf_machine.specs.Queues.{with_hand};
 ghost use Rattle.wf_machine.specs.Records.{IsMoment};
 ghost use Rattle.wf_core.specs.Changes.{HasRoomFor, IsPrepared, hand_noted};
@@ -41,7 +41,7 @@ impl Core {
         })
     }
 
-    #[tactic(auto, unfolding(wf_machine::specs::Calls::update_task_def))]
+    #[tactic(auto, unfolding(wf_steps::specs::Calls::update_task_def))]
     pub(crate) fn prepare_task_update(
         &mut self,
         alloc: Global,
@@ -66,7 +66,7 @@ impl Core {
         })
     }
 
-    #[tactic(auto, unfolding(wf_machine::specs::Calls::drop_task_def))]
+    #[tactic(auto, unfolding(wf_steps::specs::Calls::drop_task_def))]
     pub(crate) fn prepare_task_drop(&mut self, moment: u64, name: Text) -> Change
         requires moment { IsMoment moment }
         ensures state { self.new.state ≡ self.old.state }
@@ -84,7 +84,7 @@ impl Core {
         }
     }
 
-    #[tactic(auto, unfolding(wf_machine::specs::Calls::register))]
+    #[tactic(auto, unfolding(wf_steps::specs::Calls::register))]
     pub(crate) fn prepare_register(
         &mut self,
         alloc: Global,
@@ -133,7 +133,7 @@ impl Core {
         })
     }
 
-    #[tactic(auto, unfolding(wf_machine::specs::Calls::drop_flow_def))]
+    #[tactic(auto, unfolding(wf_steps::specs::Calls::drop_flow_def))]
     pub(crate) fn prepare_flow_drop(&mut self, moment: u64, name: Text, version: u32) -> Change
         requires moment { IsMoment moment }
         ensures state { self.new.state ≡ self.old.state }

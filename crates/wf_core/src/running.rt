@@ -1,7 +1,7 @@
 //! Which flows of a workflow run.
 
 ghost use Rattle.std.specs.Prelude.{◌≡◌, filter, map, IfOk};
-ghost use Rattle.wf_machine.specs.Calls.{get_running, id_of, is_of, runs_as};
+ghost use Rattle.wf_steps.specs.Calls.{get_running, id_of, is_of, runs_as};
 ghost use Rattle.wf_kept.specs.Flows.{all_kept, kept};
 ghost use Rattle.wf_core.specs.Changes.{IsPrepared};
 
@@ -16,7 +16,7 @@ use wf_names::ids::id_text;
 use wf_names::{FlowStatus, IdKind};
 
 impl Core {
-    #[tactic(auto, unfolding(wf_machine::specs::Calls::get_running))]
+    #[tactic(auto, unfolding(wf_steps::specs::Calls::get_running))]
     pub(crate) fn prepare_running(
         &mut self,
         alloc: Global,

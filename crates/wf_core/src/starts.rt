@@ -1,7 +1,7 @@
 //! Starts of workflows.
 
-ghost use Rattle.std.specs.Prelude.{◌≡◌, ◌+◌, ◌<◌, ◌^◌, IfOk};
-ghost use Rattle.wf_machine.specs.Calls.{is_too_long, start, start_of, started};
+ghost use Rattle.std.specs.Prelude.{◌≡◌, ◌+◌, ◌<◌, ◌^◌, length, IfOk};
+ghost use Rattle.wf_steps.specs.Calls.{is_too_long, start, start_of, started};
 ghost use Rattle.wf_machine.specs.Records.{IsMoment};
 ghost use Rattle.wf_core.specs.Changes.{IsPrepared};
 
@@ -9,15 +9,15 @@ use crate::change::{Change, Touched};
 use crate::no_memory::NoMemory;
 use crate::steps::Core;
 use std::alloc::Global;
-use wf_decide::with_template;
 use wf_doc::{Doc, Text, print_len};
 use wf_flow::Flow;
 use wf_kept::find_flow_def;
 use wf_machine::{FlowDef, Reply};
 use wf_names::{FlowNo, IdKind, Refusal};
+use wf_setting::with_template;
 
 impl Core {
-    #[tactic(auto, unfolding(wf_machine::specs::Calls::start))]
+    #[tactic(auto, unfolding(wf_steps::specs::Calls::start))]
     pub(crate) fn prepare_start(
         &mut self,
         alloc: Global,
@@ -58,6 +58,7 @@ impl Core {
         correlation: Text,
     ) -> Result<Change, NoMemory>
         requires number { self.old.state.next_flow < 2 ^ 56 }
+        requires room { length self.old.state.flows < self.old.limits.flows }
         requires moment { IsMoment moment }
         ensures state { self.new.state ≡ self.old.state }
         ensures limits { self.new.limits ≡ self.old.limits }
@@ -65,7 +66,7 @@ impl Core {
         ensures ok { IfOk result (IsPrepared (started self.old.limits (self.old.entries + 1) moment def input correlation self.old.state) self.old self.new) }
     {
         let number = self.flows.next_flow();
-        let mut flow = Flow::new(
+        let flow = Flow::new(
             alloc,
             FlowNo(number),
             def,
@@ -75,12 +76,14 @@ impl Core {
             0,
             moment,
         );
-        let before = self.flows.next_task();
-        let next_task = self.decide(alloc, moment, &mut flow)?;
-        self.flows.reserve(1, (next_task - before) as usize)?;
+        let _rising = self.flows.as_slice();
+        let _next_task = self.flows.next_task();
+        let kept = self.flows.len() as u64 + 1;
+        let turn = self.decide(alloc, moment, flow, kept, number + 1)?;
+        let decided = self.reserve(1, turn)?;
         Ok(Change {
             moment,
-            touched: Touched::NewFlow(flow, next_task),
+            touched: Touched::NewFlow(decided),
             reply: Reply::Id(IdKind::Flow, number),
         })
     }

@@ -2,7 +2,7 @@
 
 ghost use Rattle.std.specs.Prelude.{◌≡◌, ◌+◌, ◌<◌, ◌^◌, max, IfOk};
 ghost use Rattle.wf_machine.specs.State.{new_state};
-ghost use Rattle.wf_machine.specs.Calls.{IsProper, call_made, entry_of, step, stepped};
+ghost use Rattle.wf_steps.specs.Calls.{IsProper, call_made, entry_of, step, stepped};
 ghost use Rattle.wf_machine.specs.Records.{IsMoment};
 ghost use Rattle.wf_machine.specs.Replies.{IsPrintable};
 ghost use Rattle.wf_core.specs.Changes.{IsPrepared, IsReady, change_made, touched as state_touched};
@@ -165,6 +165,8 @@ impl Core {
                 task,
                 outcome,
             } => self.prepare_update(alloc, at, flow, task, outcome),
+            Call::Decide(number) => self.prepare_decide(alloc, at, number),
+            Call::Sweep => self.prepare_sweep(alloc, at),
         }
     }
 
@@ -219,13 +221,16 @@ impl Core {
                 forget(&mut self.flow_defs, name.as_str(), version);
                 self.defs_revision = self.entries + 1;
             }
-            Touched::NewFlow(flow, next_task) => {
+            Touched::NewFlow(new) => {
                 self.last = moment;
-                self.flows.add(flow, self.entries + 1, next_task);
+                self.flows.add(new.flow, self.entries + 1, new.next_task);
+                self.flows.add_started(new.started, self.entries + 1);
             }
-            Touched::Flow(flow, next_task, hand) => {
+            Touched::Flow(changed, hand) => {
                 self.last = moment;
-                self.flows.replace(flow, self.entries + 1, next_task);
+                self.flows
+                    .replace(changed.flow, self.entries + 1, changed.next_task);
+                self.flows.add_started(changed.started, self.entries + 1);
                 self.note_hand(hand, moment);
             }
         }

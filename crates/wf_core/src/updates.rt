@@ -2,7 +2,8 @@
 
 ghost use Rattle.std.specs.Prelude.{◌≡◌, ◌+◌, ◌≤◌, true, IfOk, Some};
 ghost use Rattle.wf_names.specs.TaskStatus.{task_is_open};
-ghost use Rattle.wf_machine.specs.Calls.{flow_numbered, flow_of_task, flow_updated, is_wanted, settled_with, task_updated, update, update_of};
+ghost use Rattle.wf_machine.specs.Flows.{flow_numbered, flow_of_task};
+ghost use Rattle.wf_steps.specs.Calls.{flow_updated, is_wanted, settled_with, task_updated, update, update_of};
 ghost use Rattle.wf_machine.specs.Records.{IsMoment, is_kind_at};
 ghost use Rattle.wf_machine.specs.State.{attempt_numbered};
 ghost use Rattle.wf_machine.specs.Tasks.{is_result_status, takes_update};
@@ -10,7 +11,7 @@ ghost use Rattle.wf_core.specs.Changes.{IsPrepared};
 ghost use Rattle.wf_core.specs.Grown.{IsTaken};
 ghost use Rattle.wf_kept.specs.Flows.{kept};
 
-use crate::change::{Change, Touched};
+use crate::change::Change;
 use crate::no_memory::NoMemory;
 use crate::steps::Core;
 use std::alloc::Global;
@@ -19,7 +20,7 @@ use wf_machine::{Reply, TaskResult};
 use wf_names::{FlowNo, IdKind, Refusal, TaskNo};
 
 impl Core {
-    #[tactic(auto, unfolding(wf_machine::specs::Calls::update))]
+    #[tactic(auto, unfolding(wf_steps::specs::Calls::update))]
     pub(crate) fn prepare_update(
         &mut self,
         alloc: Global,
@@ -76,15 +77,9 @@ impl Core {
         ensures entries { self.new.entries ≡ self.old.entries }
         ensures ok { IfOk result (IsPrepared (flow_updated self.old.limits (self.old.entries + 1) moment task outcome flow.flow self.old.state) self.old self.new) }
     {
-        let before = self.flows.next_task();
+        let _next_task = self.flows.next_task();
         let _taken = flow.apply_result(task, outcome, moment);
-        let next_task = self.decide(alloc, moment, &mut flow)?;
-        self.flows.reserve(0, (next_task - before) as usize)?;
-        Ok(Change {
-            moment,
-            touched: Touched::Flow(flow, next_task, None),
-            reply: Reply::Id(IdKind::Task, task.0),
-        })
+        self.prepare_changed(alloc, moment, flow, Reply::Id(IdKind::Task, task.0))
     }
 }
 

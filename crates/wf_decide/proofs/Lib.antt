@@ -1,4 +1,2 @@
-pub mod PlanningLemmas
-pub mod ScopeLemmas
-pub mod FitLemmas
-pub mod TemplateLemmas
+pub mod AllowLemmas
+pub mod DecideLemmas

@@ -1,1 +1,3 @@
-pub mod Planning
+pub mod Allowing
+pub mod Choosing
+pub mod Deciding

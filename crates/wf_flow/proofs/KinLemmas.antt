@@ -7,18 +7,21 @@ use Rattle.wf_machine.specs.State.{Attempt, RisingFrom, attempt_numbered, is_num
 use Rattle.wf_machine.specs.Records.{Each, Held, AreRetries, IsRetry, is_same_place}
 use Rattle.wf_flow.proofs.PlaceLemmas.{with_above}
 
--- two attempts that differ in what neither kin nor place tells
+-- the same attempt at the same place
 pub record IsKin (a b : Attempt) : Type 0 where
   pub number : a.number ≡ b.number
   pub node : a.node ≡ b.node
   pub iteration : a.iteration ≡ b.iteration
   pub retried : a.retried ≡ b.retried
+
+-- with the same child, timing and turn
+pub record IsSameWork (a b : Attempt) : Type 0 where
   pub child : a.child ≡ b.child
   pub timing : a.timing ≡ b.timing
   pub turn : a.turn ≡ b.turn
 
 pub kin_itself : (a : Attempt) → IsKin a a
-kin_itself a = record { number = refl; node = refl; iteration = refl; retried = refl; child = refl; timing = refl; turn = refl }
+kin_itself a = record { number = refl; node = refl; iteration = refl; retried = refl }
 
 abbrev pub AreKin : List Attempt → List Attempt → Type 0
 AreKin [] [] = Unit {0}

@@ -2,6 +2,7 @@ pub mod RisingLemmas
 pub mod PlaceLemmas
 pub mod KinLemmas
 pub mod RecordLemmas
+pub mod SpotLemmas
 pub mod RowLemmas
 pub mod FindLemmas
 pub mod LastLemmas

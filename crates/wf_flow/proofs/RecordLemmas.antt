@@ -16,7 +16,7 @@ use Rattle.wf_machine.specs.Records.{AreRetries, Each, Held, IsMoment, IsDueMome
 use Rattle.wf_machine.specs.Tasks.{handed_out, is_result_status, or_moment, result_applied, takes_update}
 use Rattle.wf_flow.specs.Changes.{cleared, reopened, update_answer}
 use Rattle.wf_flow.specs.Keeping.{IsSoundFlow}
-use Rattle.wf_flow.proofs.KinLemmas.{IsKin, each_append, each_found, each_map, each_with, found_number, kin_itself, kin_map, kin_with, retries_kin}
+use Rattle.wf_flow.proofs.KinLemmas.{IsKin, IsSameWork, each_append, each_found, each_map, each_with, found_number, kin_itself, kin_map, kin_with, retries_kin}
 use Rattle.wf_flow.proofs.PlaceLemmas.{rising_with}
 use Rattle.wf_flow.proofs.RisingLemmas.{rising_map}
 
@@ -30,7 +30,7 @@ pub scheduled_open : (s : TaskStatus) → is_scheduled s ≡ true → task_is_op
 scheduled_open Scheduled is = refl
 scheduled_open s is = let no : ⊥ = cc in absurd no
 
-not_both : (b : Bool) → b ≡ true → b ≡ false → ⊥
+pub not_both : (b : Bool) → b ≡ true → b ≡ false → ⊥
 not_both b is isnt = cc
 
 -- ---- ranges
@@ -92,7 +92,7 @@ due_after : (e callback : ℕ) → IsMoment e → callback ≤ 2147483647 → Is
 due_after e callback moment small = omega arith
 
 -- an attempt with these fields set anew
-range_of : (a b : Attempt) → IsInRange a → a.number ≡ b.number → a.scheduled ≡ b.scheduled → a.first_poll ≡ b.first_poll → a.last_poll ≡ b.last_poll → a.wait ≡ b.wait → a.retried ≡ b.retried → a.child ≡ b.child → IsDueMoment b.ready → IsMoment b.updated → Held IsMoment b.ended → IsInRange b
+pub range_of : (a b : Attempt) → IsInRange a → a.number ≡ b.number → a.scheduled ≡ b.scheduled → a.first_poll ≡ b.first_poll → a.last_poll ≡ b.last_poll → a.wait ≡ b.wait → a.retried ≡ b.retried → a.child ≡ b.child → IsDueMoment b.ready → IsMoment b.updated → Held IsMoment b.ended → IsInRange b
 range_of a b range number scheduled first last wait retried child ready updated ended =
     record {
       number = subst (λ n. n.0 < 2 ^ 56) number range.number;
@@ -122,30 +122,30 @@ range_result s simple e r a proper small moment range = let no : ⊥ = cc in abs
 
 -- ---- what an attempt is to the definition of its flow
 
-sound_changed : (def : FlowDef) (a b : Attempt) → IsSound def a → task_is_open a.status ≡ true → IsKin a b → a.superseded ≡ b.superseded → is_some b.ended ≡ not (task_is_open b.status) → (is_scheduled b.status ≡ true → is_kind_at is_simple def b.node ≡ true) → IsSound def b
-sound_changed def a b sound is kin superseded ended scheduled =
+pub sound_changed : (def : FlowDef) (a b : Attempt) → IsSound def a → task_is_open a.status ≡ true → IsKin a b → IsSameWork a b → a.superseded ≡ b.superseded → is_some b.ended ≡ not (task_is_open b.status) → (is_scheduled b.status ≡ true → is_kind_at is_simple def b.node ≡ true) → IsSound def b
+sound_changed def a b sound is kin work superseded ended scheduled =
     record {
       ended = ended;
       superseded = λ set. absurd (not_both (task_is_open a.status) is (sound.superseded (superseded ∙ set)));
-      timing = λ has. subst (λ n. is_kind_at is_simple def n ≡ true) kin.node (sound.timing (ap is_some kin.timing ∙ has));
+      timing = λ has. subst (λ n. is_kind_at is_simple def n ≡ true) kin.node (sound.timing (ap is_some work.timing ∙ has));
       scheduled = scheduled;
       retried = λ has. subst (λ n. is_kind_at is_simple def n ≡ true) kin.node (sound.retried (ap is_some kin.retried ∙ has));
-      child = λ has. subst (λ n. is_kind_at is_sub_flow def n ≡ true) kin.node (sound.child (ap is_some kin.child ∙ has));
+      child = λ has. subst (λ n. is_kind_at is_sub_flow def n ≡ true) kin.node (sound.child (ap is_some work.child ∙ has));
       timed = λ simple other.
-          sym (ap is_some kin.timing)
+          sym (ap is_some work.timing)
           ∙ sound.timed (subst (λ n. is_kind_at is_simple def n ≡ true) (sym kin.node) simple) (open_not_skipped a.status is);
       turn = λ loop still.
-          subst (λ t. 0 < t) kin.turn (sound.turn (subst (λ n. is_kind_at is_loop def n ≡ true) (sym kin.node) loop) is);
+          subst (λ t. 0 < t) work.turn (sound.turn (subst (λ n. is_kind_at is_loop def n ≡ true) (sym kin.node) loop) is);
     }
 
 pub sound_handed : (def : FlowDef) (e : ℕ) (worker : List ℕ) (a : Attempt) → IsSound def a → task_is_open a.status ≡ true → IsSound def (handed_out e worker a)
 sound_handed def e worker a sound is =
-    sound_changed def a (handed_out e worker a) sound is (record { number = refl; node = refl; iteration = refl; retried = refl; child = refl; timing = refl; turn = refl }) refl (sound.ended ∙ ap not is) (λ isnt. absurd (not_both false isnt refl))
+    sound_changed def a (handed_out e worker a) sound is (record { number = refl; node = refl; iteration = refl; retried = refl }) (record { child = refl; timing = refl; turn = refl }) refl (sound.ended ∙ ap not is) (λ isnt. absurd (not_both false isnt refl))
 
 sound_if_canceled : (t : Bool) (def : FlowDef) (e : ℕ) (a : Attempt) → task_is_open a.status ≡ t → IsSound def a → IsSound def (if t then record a { status = Canceled; updated = e; ended = Some e } else a)
 sound_if_canceled false def e a is sound = sound
 sound_if_canceled true def e a is sound =
-    sound_changed def a (record a { status = Canceled; updated = e; ended = Some e }) sound is (record { number = refl; node = refl; iteration = refl; retried = refl; child = refl; timing = refl; turn = refl }) refl refl (λ isnt. absurd (not_both false isnt refl))
+    sound_changed def a (record a { status = Canceled; updated = e; ended = Some e }) sound is (record { number = refl; node = refl; iteration = refl; retried = refl }) (record { child = refl; timing = refl; turn = refl }) refl refl (λ isnt. absurd (not_both false isnt refl))
 
 pub sound_canceled : (def : FlowDef) (e : ℕ) (a : Attempt) → IsSound def a → IsSound def (canceled e a)
 sound_canceled def e a sound = sound_if_canceled (task_is_open a.status) def e a refl sound
@@ -165,24 +165,24 @@ sound_superseded def a sound over =
 
 pub sound_result : (s : TaskStatus) (simple : Bool) (def : FlowDef) (e : ℕ) (r : TaskResult) (a : Attempt) → is_result_status s ≡ true → simple ≡ is_kind_at is_simple def a.node → IsSound def a → task_is_open a.status ≡ true → IsSound def (result_applied e simple (record r { status = s }) a)
 sound_result InProgress true def e r a proper kind sound is =
-    sound_changed def a (result_applied e true (record r { status = InProgress }) a) sound is (record { number = refl; node = refl; iteration = refl; retried = refl; child = refl; timing = refl; turn = refl }) refl (sound.ended ∙ ap not is) (λ set. sym kind)
+    sound_changed def a (result_applied e true (record r { status = InProgress }) a) sound is (record { number = refl; node = refl; iteration = refl; retried = refl }) (record { child = refl; timing = refl; turn = refl }) refl (sound.ended ∙ ap not is) (λ set. sym kind)
 sound_result InProgress false def e r a proper kind sound is =
-    sound_changed def a (result_applied e false (record r { status = InProgress }) a) sound is (record { number = refl; node = refl; iteration = refl; retried = refl; child = refl; timing = refl; turn = refl }) refl (sound.ended ∙ ap not is) (λ isnt. absurd (not_both false isnt refl))
+    sound_changed def a (result_applied e false (record r { status = InProgress }) a) sound is (record { number = refl; node = refl; iteration = refl; retried = refl }) (record { child = refl; timing = refl; turn = refl }) refl (sound.ended ∙ ap not is) (λ isnt. absurd (not_both false isnt refl))
 sound_result Completed simple def e r a proper kind sound is =
-    sound_changed def a (result_applied e simple (record r { status = Completed }) a) sound is (record { number = refl; node = refl; iteration = refl; retried = refl; child = refl; timing = refl; turn = refl }) refl refl (λ isnt. absurd (not_both false isnt refl))
+    sound_changed def a (result_applied e simple (record r { status = Completed }) a) sound is (record { number = refl; node = refl; iteration = refl; retried = refl }) (record { child = refl; timing = refl; turn = refl }) refl refl (λ isnt. absurd (not_both false isnt refl))
 sound_result Failed simple def e r a proper kind sound is =
-    sound_changed def a (result_applied e simple (record r { status = Failed }) a) sound is (record { number = refl; node = refl; iteration = refl; retried = refl; child = refl; timing = refl; turn = refl }) refl refl (λ isnt. absurd (not_both false isnt refl))
+    sound_changed def a (result_applied e simple (record r { status = Failed }) a) sound is (record { number = refl; node = refl; iteration = refl; retried = refl }) (record { child = refl; timing = refl; turn = refl }) refl refl (λ isnt. absurd (not_both false isnt refl))
 sound_result FailedWithTerminalError simple def e r a proper kind sound is =
-    sound_changed def a (result_applied e simple (record r { status = FailedWithTerminalError }) a) sound is (record { number = refl; node = refl; iteration = refl; retried = refl; child = refl; timing = refl; turn = refl }) refl refl (λ isnt. absurd (not_both false isnt refl))
+    sound_changed def a (result_applied e simple (record r { status = FailedWithTerminalError }) a) sound is (record { number = refl; node = refl; iteration = refl; retried = refl }) (record { child = refl; timing = refl; turn = refl }) refl refl (λ isnt. absurd (not_both false isnt refl))
 sound_result s simple def e r a proper kind sound is = let no : ⊥ = cc in absurd no
 
 pub kin_result : (s : TaskStatus) (simple : Bool) (e : ℕ) (r : TaskResult) (a : Attempt) → IsKin a (result_applied e simple (record r { status = s }) a)
-kin_result InProgress true e r a = record { number = refl; node = refl; iteration = refl; retried = refl; child = refl; timing = refl; turn = refl }
-kin_result InProgress false e r a = record { number = refl; node = refl; iteration = refl; retried = refl; child = refl; timing = refl; turn = refl }
-kin_result s simple e r a = record { number = refl; node = refl; iteration = refl; retried = refl; child = refl; timing = refl; turn = refl }
+kin_result InProgress true e r a = record { number = refl; node = refl; iteration = refl; retried = refl }
+kin_result InProgress false e r a = record { number = refl; node = refl; iteration = refl; retried = refl }
+kin_result s simple e r a = record { number = refl; node = refl; iteration = refl; retried = refl }
 
 kin_if_canceled : (t : Bool) (e : ℕ) (a : Attempt) → IsKin a (if t then record a { status = Canceled; updated = e; ended = Some e } else a)
-kin_if_canceled true e a = record { number = refl; node = refl; iteration = refl; retried = refl; child = refl; timing = refl; turn = refl }
+kin_if_canceled true e a = record { number = refl; node = refl; iteration = refl; retried = refl }
 kin_if_canceled false e a = kin_itself a
 
 kin_canceled : (e : ℕ) (a : Attempt) → IsKin a (canceled e a)
@@ -341,7 +341,7 @@ some_and P Q (Some a) is step = step a refl is
 pub keeping_handed : (def : FlowDef) (e : ℕ) (worker : List ℕ) (a : Attempt) → IsMoment e → task_is_open a.status ≡ true → IsInRange a → IsSound def a → IsKeeping def a (handed_out e worker a)
 keeping_handed def e worker a moment is range sound =
     record {
-      kin = record { number = refl; node = refl; iteration = refl; retried = refl; child = refl; timing = refl; turn = refl };
+      kin = record { number = refl; node = refl; iteration = refl; retried = refl };
       over = λ over. absurd (not_both (task_is_open a.status) is over);
       range = range_handed e worker a moment range;
       sound = sound_handed def e worker a sound is;
@@ -350,7 +350,7 @@ keeping_handed def e worker a moment is range sound =
 pub keeping_superseded : (def : FlowDef) (a : Attempt) → task_is_open a.status ≡ false → IsInRange a → IsSound def a → IsKeeping def a (record a { superseded = true })
 keeping_superseded def a over range sound =
     record {
-      kin = record { number = refl; node = refl; iteration = refl; retried = refl; child = refl; timing = refl; turn = refl };
+      kin = record { number = refl; node = refl; iteration = refl; retried = refl };
       over = λ so. so;
       range = range_superseded a range;
       sound = sound_superseded def a sound over;

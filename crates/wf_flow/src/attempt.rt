@@ -5,6 +5,7 @@ ghost use Rattle.std.specs.Option.{option_copied};
 ghost use Rattle.wf_machine.specs.State.{canceled, new_attempt};
 ghost use Rattle.wf_machine.specs.Records.{Held, IsDueMoment, IsInRange, IsMoment};
 ghost use Rattle.wf_machine.specs.Tasks.{goes_on, handed_out, is_result_status, or_moment, or_worker, result_applied, result_noted};
+ghost use Rattle.wf_flow.specs.Changes.{closed, forgiven, or_kept, poll_noted, total_noted, turned};
 
 use crate::empty::{empty_table, empty_text};
 use crate::no_memory::NoMemory;
@@ -514,6 +515,78 @@ impl Attempt {
         } else {
             self.status = TaskStatus::InProgress;
         }
+    }
+
+    /// Ends it, with a new reason and a new output where there are some.
+    pub(crate) fn close(
+        &mut self,
+        status: TaskStatus,
+        reason: Option<Text>,
+        output: Option<Doc>,
+        moment: u64,
+    )
+        requires { IsMoment moment }
+        ensures { self.new ≡ closed moment status reason output self.old }
+    {
+        self.give_reason(reason);
+        self.give_output(output);
+        self.updated = moment;
+        self.finish(status, moment);
+    }
+
+    fn give_reason(&mut self, reason: Option<Text>)
+        ensures { self.new ≡ record self.old { reason = or_kept self.old.reason reason } }
+    {
+        if let Some(reason) = reason {
+            self.reason = reason;
+        }
+    }
+
+    fn give_output(&mut self, output: Option<Doc>)
+        ensures { self.new ≡ record self.old { output = or_kept self.old.output output } }
+    {
+        if let Some(output) = output {
+            self.output = output;
+        }
+    }
+
+    /// Notes that its poll deadline has passed.
+    pub(crate) fn note_poll(&mut self, reason: Text, moment: u64)
+        requires { IsMoment moment }
+        ensures { self.new ≡ poll_noted moment reason self.old }
+    {
+        self.poll_noted = true;
+        self.reason = reason;
+        self.updated = moment;
+    }
+
+    /// Notes that its total deadline has passed.
+    pub(crate) fn note_total(&mut self, reason: Text, moment: u64)
+        requires { IsMoment moment }
+        ensures { self.new ≡ total_noted moment reason self.old }
+    {
+        self.total_noted = true;
+        self.reason = reason;
+        self.updated = moment;
+    }
+
+    /// Lets the flow go on as if it had succeeded.
+    pub(crate) fn forgive(&mut self, moment: u64)
+        requires { IsMoment moment }
+        ensures { self.new ≡ forgiven moment self.old }
+    {
+        self.status = TaskStatus::CompletedWithErrors;
+        self.updated = moment;
+    }
+
+    /// Puts its loop into that turn.
+    pub(crate) fn turn_on(&mut self, output: Doc, turn: u32, moment: u64)
+        requires { IsMoment moment }
+        ensures { self.new ≡ turned moment output turn self.old }
+    {
+        self.output = output;
+        self.turn = turn;
+        self.updated = moment;
     }
 
     fn finish(&mut self, status: TaskStatus, moment: u64)

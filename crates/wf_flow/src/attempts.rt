@@ -5,7 +5,7 @@ ghost use Rattle.std.specs.Option.{option_copied};
 ghost use Rattle.wf_machine.specs.State.{RisingFrom, attempt_numbered, canceled};
 ghost use Rattle.wf_machine.specs.Records.{IsMoment};
 ghost use Rattle.wf_machine.specs.Tasks.{handed_out, is_result_status, result_applied};
-ghost use Rattle.wf_flow.specs.Changes.{open_numbers};
+ghost use Rattle.wf_flow.specs.Changes.{at_place, closed, forgiven, open_numbers, poll_noted, total_noted, turned};
 ghost use Rattle.wf_flow.specs.Room.{IsPlaceOf};
 
 use crate::attempt::Attempt;
@@ -13,9 +13,9 @@ use crate::no_memory::NoMemory;
 use std::alloc::Global;
 use std::marker::Model;
 use std::mem;
-use wf_doc::{Items, Text};
+use wf_doc::{Doc, Items, Text};
 use wf_machine::TaskResult;
-use wf_names::TaskNo;
+use wf_names::{TaskNo, TaskStatus};
 
 #[derive(Drop)]
 pub struct Attempts {
@@ -141,6 +141,73 @@ impl Attempts {
         ensures room { self.new.spare ≡ self.old.spare }
     {
         self.items[place].set_superseded(true);
+    }
+
+    /// Ends the attempt at that place, where there is one, with a new reason and a new output where there are some.
+    #[tactic(auto, using(crate::proofs::SpotLemmas::spot_missing))]
+    pub fn close(
+        &mut self,
+        place: usize,
+        status: TaskStatus,
+        reason: Option<Text>,
+        output: Option<Doc>,
+        moment: u64,
+    )
+        requires { IsMoment moment }
+        ensures items { self.new.items ≡ at_place place (closed moment status reason output) self.old.items }
+        ensures room { self.new.spare ≡ self.old.spare }
+    {
+        if place < self.items.len() {
+            self.items[place].close(status, reason, output, moment);
+        }
+    }
+
+    /// Notes that the poll deadline of the attempt at that place, where there is one, has passed.
+    #[tactic(auto, using(crate::proofs::SpotLemmas::spot_missing))]
+    pub fn note_poll(&mut self, place: usize, reason: Text, moment: u64)
+        requires { IsMoment moment }
+        ensures items { self.new.items ≡ at_place place (poll_noted moment reason) self.old.items }
+        ensures room { self.new.spare ≡ self.old.spare }
+    {
+        if place < self.items.len() {
+            self.items[place].note_poll(reason, moment);
+        }
+    }
+
+    /// Notes that the total deadline of the attempt at that place, where there is one, has passed.
+    #[tactic(auto, using(crate::proofs::SpotLemmas::spot_missing))]
+    pub fn note_total(&mut self, place: usize, reason: Text, moment: u64)
+        requires { IsMoment moment }
+        ensures items { self.new.items ≡ at_place place (total_noted moment reason) self.old.items }
+        ensures room { self.new.spare ≡ self.old.spare }
+    {
+        if place < self.items.len() {
+            self.items[place].note_total(reason, moment);
+        }
+    }
+
+    /// Lets the flow go on as if the attempt at that place, where there is one, had succeeded.
+    #[tactic(auto, using(crate::proofs::SpotLemmas::spot_missing))]
+    pub fn forgive(&mut self, place: usize, moment: u64)
+        requires { IsMoment moment }
+        ensures items { self.new.items ≡ at_place place (forgiven moment) self.old.items }
+        ensures room { self.new.spare ≡ self.old.spare }
+    {
+        if place < self.items.len() {
+            self.items[place].forgive(moment);
+        }
+    }
+
+    /// Puts the loop of the attempt at that place, where there is one, into that turn.
+    #[tactic(auto, using(crate::proofs::SpotLemmas::spot_missing))]
+    pub fn turn_on(&mut self, place: usize, output: Doc, turn: u32, moment: u64)
+        requires { IsMoment moment }
+        ensures items { self.new.items ≡ at_place place (turned moment output turn) self.old.items }
+        ensures room { self.new.spare ≡ self.old.spare }
+    {
+        if place < self.items.len() {
+            self.items[place].turn_on(output, turn, moment);
+        }
     }
 
     /// Takes all attempts away.

@@ -1,13 +1,13 @@
 //! One workflow instance.
 
-ghost use Rattle.std.specs.Prelude.{◌≡◌, ◌≢◌, [], ◌∷◌, ◌++◌, ◌+◌, ◌<◌, ◌≤◌, ◌^◌, true, false, length, slice_get, IfOk, IsSome, IsSomeAnd, OnOk, Ok, Some};
+ghost use Rattle.std.specs.Prelude.{◌≡◌, ◌≢◌, [], ◌∷◌, ◌++◌, ◌+◌, ◌<◌, ◌≤◌, ◌^◌, true, false, length, slice_get, IfOk, IfSome, IsSome, IsSomeAnd, OnOk, Ok, Some};
 ghost use Rattle.std.specs.Option.{option_copied, option_map_or};
 ghost use Rattle.wf_names.specs.FlowStatus.{flow_is_open};
 ghost use Rattle.wf_names.specs.TaskStatus.{task_is_open};
 ghost use Rattle.wf_machine.specs.State.{RisingFrom, RisingTo, attempt_numbered, flow_ended, new_flow, with_attempt};
 ghost use Rattle.wf_machine.specs.Records.{Each, Held, IsInRange, IsMoment, IsRecord, is_kind_at, is_scheduled, is_simple};
 ghost use Rattle.wf_machine.specs.Tasks.{handed_out, is_result_status, result_applied};
-ghost use Rattle.wf_flow.specs.Changes.{attempt_answer, cleared, open_numbers, reopened, update_answer};
+ghost use Rattle.wf_flow.specs.Changes.{at_place, attempt_answer, cleared, closed, forgiven, has_failed, open_numbers, poll_noted, reopened, total_noted, turned, update_answer};
 
 use crate::attempt::Attempt;
 use crate::attempts::Attempts;
@@ -18,7 +18,7 @@ use std::alloc::Global;
 use std::marker::Model;
 use wf_doc::{Doc, Items, Text};
 use wf_machine::{FlowDef, TaskResult};
-use wf_names::{FlowNo, FlowStatus, Refusal, TaskNo};
+use wf_names::{FlowNo, FlowStatus, Refusal, TaskNo, TaskStatus};
 
 /// Numbers of attempts in an order that the maker gives them.
 pub type TaskNos = Items<TaskNo>;
@@ -425,6 +425,63 @@ impl Flow {
         if let Some(place) = self.attempts.place(task) {
             self.attempts.apply_result(place, simple, outcome, moment);
         }
+    }
+
+    /// Ends the open attempt at that place, with a new reason and a new output where there are some. It takes no memory.
+    pub fn close_at(
+        &mut self,
+        place: u64,
+        status: TaskStatus,
+        reason: Option<Text>,
+        output: Option<Doc>,
+        moment: u64,
+    )
+        requires opened { IfSome (slice_get self.old.flow.attempts place) (λ a. task_is_open a.status ≡ true) }
+        requires terminal { task_is_open status ≡ false }
+        requires moment { IsMoment moment }
+        ensures flow { self.new.flow ≡ record self.old.flow { attempts = at_place place (closed moment status reason output) self.old.flow.attempts } }
+        ensures room { self.new.spare ≡ self.old.spare }
+    {
+        self.attempts
+            .close(place as usize, status, reason, output, moment);
+    }
+
+    /// Notes that the poll deadline of the attempt at that place has passed. It takes no memory.
+    pub fn note_poll_at(&mut self, place: u64, reason: Text, moment: u64)
+        requires moment { IsMoment moment }
+        ensures flow { self.new.flow ≡ record self.old.flow { attempts = at_place place (poll_noted moment reason) self.old.flow.attempts } }
+        ensures room { self.new.spare ≡ self.old.spare }
+    {
+        self.attempts.note_poll(place as usize, reason, moment);
+    }
+
+    /// Notes that the total deadline of the attempt at that place has passed. It takes no memory.
+    pub fn note_total_at(&mut self, place: u64, reason: Text, moment: u64)
+        requires moment { IsMoment moment }
+        ensures flow { self.new.flow ≡ record self.old.flow { attempts = at_place place (total_noted moment reason) self.old.flow.attempts } }
+        ensures room { self.new.spare ≡ self.old.spare }
+    {
+        self.attempts.note_total(place as usize, reason, moment);
+    }
+
+    /// Lets the flow go on as if the attempt at that place, which has ended without success, had succeeded. It takes no memory.
+    pub fn forgive_at(&mut self, place: u64, moment: u64)
+        requires failed { IfSome (slice_get self.old.flow.attempts place) (λ a. has_failed a.status ≡ true) }
+        requires moment { IsMoment moment }
+        ensures flow { self.new.flow ≡ record self.old.flow { attempts = at_place place (forgiven moment) self.old.flow.attempts } }
+        ensures room { self.new.spare ≡ self.old.spare }
+    {
+        self.attempts.forgive(place as usize, moment);
+    }
+
+    /// Puts the loop of the attempt at that place into that turn. It takes no memory.
+    pub fn turn_at(&mut self, place: u64, output: Doc, turn: u32, moment: u64)
+        requires turn { 0 < turn }
+        requires moment { IsMoment moment }
+        ensures flow { self.new.flow ≡ record self.old.flow { attempts = at_place place (turned moment output turn) self.old.flow.attempts } }
+        ensures room { self.new.spare ≡ self.old.spare }
+    {
+        self.attempts.turn_on(place as usize, output, turn, moment);
     }
 
     pub fn set_input(&mut self, value: Doc)

@@ -9,11 +9,11 @@ use Rattle.std.proofs.lemmas.List.Folds.{find-append}
 use Rattle.std.proofs.lemmas.List.Elements.{All-append, All-cons, All-head, All-nil, All-tail, All-weaker}
 use Rattle.wf_names.specs.declared.ids.TaskNo.{TaskNo}
 use Rattle.wf_machine.specs.State.{Attempt, Flow, Kept, RisingTo, attempt_numbered}
-use Rattle.wf_machine.specs.Calls.{flow_numbered, flow_of_task, has_attempt, is_flow, with_kept}
+use Rattle.wf_machine.specs.Flows.{flow_numbered, flow_of_task, has_attempt, is_flow}
 use Rattle.wf_kept.specs.declared.index.Placed.{Placed}
 use Rattle.wf_kept.specs.Rising.{IsPlaceOf, RisesTo}
 use Rattle.wf_kept.specs.declared.kept.KeptFlow.{KeptFlow}
-use Rattle.wf_kept.specs.Flows.{AreAttemptsBelow, FlowTable, IsGrown, IsGrownFlow, IsKeptIn, all_kept, attempt_count, attempt_number, flow_number, kept, new_attempts}
+use Rattle.wf_kept.specs.Flows.{AreAttemptsBelow, FlowTable, IsGrown, IsGrownFlow, IsKeptIn, all_kept, attempt_count, attempt_number, flow_number, kept, new_attempts, with_kept}
 use Rattle.wf_kept.specs.Index.{AreTied, placed_in, placed_task, rows_of}
 use Rattle.wf_kept.proofs.SearchLemmas.{found_at, found_itself, low_at, rises_append, rises_range}
 use Rattle.wf_kept.proofs.IndexLemmas.{has_append, has_by_numbers, none_has, numbered_above, placed_append, rising_range, rows_rise, rows_tell}

@@ -8,7 +8,7 @@ use Rattle.std.proofs.lemmas.List.Elements.{All-head, All-tail}
 use Rattle.wf_names.specs.declared.ids.FlowNo.{FlowNo}
 use Rattle.wf_names.specs.declared.ids.TaskNo.{TaskNo}
 use Rattle.wf_machine.specs.State.{Attempt, Kept, RisingTo, attempt_numbered, is_numbered}
-use Rattle.wf_machine.specs.Calls.{flow_numbered, flow_of_task, has_attempt}
+use Rattle.wf_machine.specs.Flows.{flow_numbered, flow_of_task, has_attempt}
 use Rattle.wf_kept.specs.declared.index.Placed.{Placed}
 use Rattle.wf_kept.specs.Rising.{IsPlaceOf, RisesTo}
 use Rattle.wf_kept.specs.Flows.{AreAttemptsBelow, attempt_number, flow_number}

@@ -3,3 +3,4 @@ pub mod SearchLemmas
 pub mod IndexLemmas
 pub mod FlowLemmas
 pub mod HandLemmas
+pub mod RevisedLemmas

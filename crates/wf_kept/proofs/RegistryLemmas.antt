@@ -7,7 +7,7 @@ use Rattle.std.specs.declared.cmp.Ordering.{Ordering}
 use Rattle.std.specs.declared.cmp.Ordering.TheVariants.{Equal}
 use Rattle.wf_machine.specs.declared.definition.FlowDef.{FlowDef}
 use Rattle.wf_machine.specs.declared.definition.TaskDef.{TaskDef}
-use Rattle.wf_machine.specs.Calls.{definition_order, with_flow_def, with_task_def}
+use Rattle.wf_machine.specs.Registered.{definition_order, with_flow_def, with_task_def}
 
 -- an item of the same place in the order stands at i: what puts the item into the rest begins with it
 put_same : {T : Type 0} (order : T → Ordering) (put : List T → List T) (c : T)

@@ -1,8 +1,8 @@
 -- Kept flows, as contracts see them, and what a change of one must meet.
-use Rattle.std.specs.Prelude.{◌≡◌, ℕ, ◌-◌, List, ◌++◌, length, map, Some}
+use Rattle.std.specs.Prelude.{◌≡◌, ℕ, ◌+◌, ◌-◌, List, [], ◌∷◌, ◌++◌, length, map, if◌then◌else◌, Some}
 use Rattle.std.specs.Option.{option_map_or}
 use Rattle.wf_machine.specs.State.{Attempt, Flow, Kept, RisingTo}
-use Rattle.wf_machine.specs.Calls.{flow_numbered}
+use Rattle.wf_machine.specs.Flows.{flow_numbered, is_concerned, is_flow, revised}
 use Rattle.wf_kept.specs.declared.kept.KeptFlow.{KeptFlow}
 
 -- a flow as the machine keeps it: without the room that it has
@@ -56,3 +56,20 @@ pub record IsGrownFlow (table : FlowTable) (flow : Flow) (next_task : ℕ) : Typ
 -- how many attempts the flow has more than the kept flow of its number
 abbrev pub new_attempts : Flow → List Kept → ℕ
 new_attempts flow flows = length flow.attempts - option_map_or attempt_count (flow_numbered flow.number flows) 0
+
+-- the flows with this one in place of that of its number
+abbrev pub with_kept : Kept → List Kept → List Kept
+with_kept k flows = map (λ x. if is_flow k.flow.number x then k else x) flows
+
+-- a flow that the change of another concerns is revised, by the entry at that place
+abbrev pub revised_with : ℕ → Flow → Flow → Kept → Kept
+revised_with place before now k = if is_concerned before now k.flow then record k { revision = place } else k
+
+-- the flows when the kept one of that number has become this one, by the entry at that place
+abbrev pub flow_changed : ℕ → Flow → List Kept → List Kept
+flow_changed place now flows = option_map_or (λ (before : Kept). map (revised place before.flow now) flows) (flow_numbered now.number flows) flows
+
+-- flows of consecutive numbers without attempts: those that a decision starts
+abbrev pub AreStarted : ℕ → List Flow → Type 0
+AreStarted number [] = Unit {0}
+AreStarted number (f ∷ fs) = (f.number.0 ≡ number) × (f.attempts ≡ []) × AreStarted (number + 1) fs

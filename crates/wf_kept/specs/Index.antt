@@ -4,7 +4,7 @@ use Rattle.std.specs.List.{All, find}
 use Rattle.wf_names.specs.declared.ids.FlowNo.{FlowNo}
 use Rattle.wf_names.specs.declared.ids.TaskNo.{TaskNo}
 use Rattle.wf_machine.specs.State.{Attempt, Kept}
-use Rattle.wf_machine.specs.Calls.{flow_of_task}
+use Rattle.wf_machine.specs.Flows.{flow_of_task}
 use Rattle.wf_kept.specs.declared.index.Placed.{Placed}
 use Rattle.wf_kept.specs.Rising.{RisesTo}
 use Rattle.wf_kept.specs.Flows.{AreAttemptsBelow, flow_number}

@@ -1,13 +1,14 @@
 //! Kept flows, found by their numbers and by those of their attempts.
 
-ghost use Rattle.std.specs.Prelude.{◌≡◌, ◌+◌, ◌<◌, ◌≤◌, ◌^◌, [], ◌∷◌, ◌++◌, length, option_map, slice_get, IfNone, IfSome, None, OnOk, Some};
+ghost use Rattle.std.specs.Prelude.{◌≡◌, ◌+◌, ◌<◌, ◌≤◌, ◌^◌, [], ◌∷◌, ◌++◌, length, map, option_map, slice_get, IfNone, IfSome, None, OnOk, Some};
 ghost use Rattle.std.specs.List.{All};
 ghost use Rattle.std.specs.Option.{option_copied};
 ghost use Rattle.wf_machine.specs.State.{RisingTo};
-ghost use Rattle.wf_machine.specs.Calls.{flow_numbered, flow_of_task, with_kept};
-ghost use Rattle.wf_kept.specs.Flows.{AreAttemptsBelow, IsGrownFlow, IsKeptIn, all_kept, attempt_count, flow_number, kept, new_attempts};
+ghost use Rattle.wf_machine.specs.Flows.{flow_numbered, flow_of_task, is_concerned, new_kept};
+ghost use Rattle.wf_kept.specs.Flows.{AreAttemptsBelow, IsGrownFlow, IsKeptIn, AreStarted, all_kept, attempt_count, flow_changed, flow_number, kept, new_attempts, revised_with};
 ghost use Rattle.wf_kept.specs.Rising.{IsPlaceOf, Rises, RisesTo};
 
+use crate::concerned::is_concerned;
 use crate::index::{Placed, add_rows, flow_of};
 use crate::kept::KeptFlow;
 use crate::no_memory::NoMemory;
@@ -148,13 +149,29 @@ impl KeptFlows {
         self.next_task = next_task;
     }
 
+    /// Keeps flows that have the next numbers, in their order, and no attempts. It takes no memory.
+    pub fn add_started(&mut self, flows: Vec<Flow>, revision: u64)
+        requires started { AreStarted self.old.next_flow (map (λ f. f.flow) flows.items) }
+        requires numbers_left { self.old.next_flow + length flows.items ≤ 2 ^ 56 }
+        requires room { length flows.items ≤ self.old.spare_flows }
+        ensures kept { self.new.kept ≡ self.old.kept ++ map (λ f. new_kept revision f.flow) flows.items }
+        ensures next_flow { self.new.next_flow ≡ self.old.next_flow + length flows.items }
+        ensures next_task { self.new.next_task ≡ self.old.next_task }
+    {
+        for flow in flows {
+            let next_task = self.next_task;
+            self.add(flow, revision, next_task);
+        }
+    }
+
     /// Keeps a flow in place of that of its number, from which it has grown: its new attempts have numbers from the
-    /// next one on, below `next_task`, which is the next one from then on. It takes no memory.
+    /// next one on, below `next_task`, which is the next one from then on. Its parent is revised where the flow ends, and
+    /// its children where their attempts do. It takes no memory.
     pub fn replace(&mut self, flow: Flow, revision: u64, next_task: u64)
         requires grown { IsGrownFlow self.old flow.flow next_task }
         requires limit { next_task ≤ 2 ^ 56 }
         requires room { new_attempts flow.flow self.old.kept ≤ self.old.spare_tasks }
-        ensures kept { self.new.kept ≡ with_kept (record { flow = flow.flow; revision = revision }) self.old.kept }
+        ensures kept { self.new.kept ≡ flow_changed revision flow.flow self.old.kept }
         ensures next_flow { self.new.next_flow ≡ self.old.next_flow }
         ensures next_task { self.new.next_task ≡ next_task }
         ensures spare_flows { self.new.spare_flows ≡ self.old.spare_flows }
@@ -163,10 +180,47 @@ impl KeptFlows {
         if let Some(place) = place_of(self.flows.as_slice(), flow.number()) {
             let known = attempts_at(self.flows.as_slice(), place);
             add_rows(&mut self.index, flow.number(), flow.attempts(), known);
-            self.flows.set(place, KeptFlow { flow, revision });
+            put(&mut self.flows, place, flow, revision);
             self.next_task = next_task;
         }
     }
+}
+
+/// Puts a flow in the place of the one of its number, and revises the flows that this change concerns.
+fn put(flows: &mut Roomy<KeptFlow>, place: usize, flow: Flow, revision: u64)
+    requires rises { Rises flow_number (all_kept flows.old.items) }
+    requires there { IsPlaceOf flow_number flow.flow.number.0 (all_kept flows.old.items) place }
+    ensures items { all_kept flows.new.items ≡ flow_changed revision flow.flow (all_kept flows.old.items) }
+    ensures room { flows.new.spare ≡ flows.old.spare }
+{
+    let before = flows.replace(place, KeptFlow { flow, revision });
+    revise(flows, place, &before.flow, revision);
+}
+
+/// Revises the flows that the change of the one at that place concerns, which was so before.
+fn revise(flows: &mut Roomy<KeptFlow>, place: usize, before: &Flow, revision: u64)
+    requires { place < length flows.old.items }
+    ensures items { IfSome (slice_get (all_kept flows.old.items) place)
+        (λ now. all_kept flows.new.items ≡ map (revised_with revision before.now.flow now.flow) (all_kept flows.old.items)) }
+    ensures room { flows.new.spare ≡ flows.old.spare }
+{
+    let mut left = flows.as_slice().len();
+    'flows: while left > 0 {
+        left -= 1;
+        if concerns(flows.as_slice(), before, place, left) {
+            flows.revise(left, revision);
+        }
+    }
+}
+
+/// The change of the flow at the place `now`, which was so before, concerns the one at the place `other`.
+fn concerns(flows: &[KeptFlow], before: &Flow, now: usize, other: usize) -> bool
+    requires now { now < length flows.now }
+    requires other { other < length flows.now }
+    ensures { IfSome (slice_get (all_kept flows.now) now) (λ n. IfSome (slice_get (all_kept flows.now) other)
+        (λ o. result ≡ is_concerned before.now.flow n.flow o.flow)) }
+{
+    is_concerned(before, &flows[now].flow, &flows[other].flow)
 }
 
 /// How many attempts the flow at that place has.

@@ -4,6 +4,7 @@
 //! What a change needs is made ready by a `reserve`; the calls that make it have no `Result`, and take no memory.
 #![tactic(auto)]
 
+mod concerned;
 mod flows;
 mod hand_row;
 mod hands;

@@ -3,7 +3,7 @@
 ghost use Rattle.std.specs.Prelude.{◌≡◌, ◌<◌, ◌≤◌, ◌+◌, length, slice_set, IfSome, Some, IsTrue, if◌then◌else◌};
 ghost use Rattle.std.specs.List.{insert, remove};
 ghost use Rattle.std.specs.Option.{option_copied, option_map_or};
-ghost use Rattle.wf_machine.specs.Calls.{definition_order, flow_def_at, flow_def_for, greater_version, newest_flow_def, with_flow_def, with_flow_defs, without_flow_def};
+ghost use Rattle.wf_machine.specs.Registered.{definition_order, flow_def_at, flow_def_for, greater_version, newest_flow_def, with_flow_def, with_flow_defs, without_flow_def};
 
 use crate::roomy::Roomy;
 use std::cmp::Ordering;

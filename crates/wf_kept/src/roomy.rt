@@ -1,15 +1,16 @@
 //! Lists with room for more.
 
-ghost use Rattle.std.specs.Prelude.{◌≡◌, [], ◌∷◌, ◌++◌, ◌+◌, ◌<◌, ◌≤◌, length, slice_set, OnOk};
+ghost use Rattle.std.specs.Prelude.{◌≡◌, [], ◌∷◌, ◌++◌, ◌+◌, ◌<◌, ◌≤◌, length, slice_get, slice_set, OnOk, Some};
 ghost use Rattle.std.specs.List.{insert, remove};
 
 use std::alloc::{AllocError, Global};
 use std::marker::Model;
+use std::mem;
 
 /// A list, seen with the room that it has for more items. Where there is room, adding takes no memory.
 #[derive(Drop)]
 pub struct Roomy<T> {
-    items: Vec<T>,
+    pub(crate) items: Vec<T>,
 }
 
 impl<T> Model for Roomy<T> {
@@ -83,5 +84,15 @@ impl<T: Drop> Roomy<T> {
         ensures room { self.new.spare ≡ self.old.spare }
     {
         self.items[at] = item;
+    }
+
+    /// Puts an item in the place of the one at that place, which it gives back.
+    pub fn replace(&mut self, at: usize, item: T) -> T
+        requires { at < length self.old.items }
+        ensures old { slice_get self.old.items at ≡ Some result }
+        ensures items { self.new.items ≡ slice_set self.old.items at item }
+        ensures room { self.new.spare ≡ self.old.spare }
+    {
+        mem::replace(&mut self.items[at], item)
     }
 }

@@ -5,8 +5,7 @@ ghost use Rattle.std.specs.List.{insert, remove};
 ghost use Rattle.std.specs.Option.{option_copied, option_map_or};
 ghost use Rattle.std.specs.Ordering.{nat_cmp};
 ghost use Rattle.std.specs.Cmp.Lexicographic.{slice_cmp};
-ghost use Rattle.wf_machine.specs.Calls.{with_task_def, with_task_defs, without_task_def};
-ghost use Rattle.wf_machine.specs.Rules.{task_def_named};
+ghost use Rattle.wf_machine.specs.Registered.{with_task_def, with_task_defs, without_task_def, task_def_named};
 
 use crate::roomy::Roomy;
 use std::cmp::Ordering;

@@ -6,12 +6,10 @@ pub mod Sight
 pub mod Marks
 pub mod Naming
 pub mod Choices
-pub mod Rules
+pub mod Registered
+pub mod Flows
 pub mod Records
-pub mod Plans
 pub mod Tasks
 pub mod Queues
 pub mod Documents
-pub mod Calls
-pub mod History
 pub mod Replies

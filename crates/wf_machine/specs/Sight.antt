@@ -3,11 +3,9 @@ use Rattle.std.specs.Prelude.{ℕ, Bool, List, map, Option}
 use Rattle.wf_doc.specs.declared.doc.Doc.{Doc}
 use Rattle.wf_names.specs.declared.ids.FlowNo.{FlowNo}
 use Rattle.wf_names.specs.declared.statuses.TaskStatus.{TaskStatus}
-use Rattle.wf_names.specs.declared.statuses.FlowStatus.{FlowStatus}
 use Rattle.wf_machine.specs.declared.definition.FlowDef.{FlowDef}
-use Rattle.wf_machine.specs.declared.definition.TaskDef.{TaskDef}
 use Rattle.wf_machine.specs.declared.timed.Timing.{Timing}
-use Rattle.wf_machine.specs.State.{Attempt, Flow, State}
+use Rattle.wf_machine.specs.State.{Attempt, Flow}
 
 -- what they see of an attempt
 pub record Seen : Type 0 where
@@ -37,28 +35,6 @@ seen a =
       superseded = a.superseded;
     }
 
--- what they see of a flow: its attempts stand in their order, so each is known by its place
-pub record Sight : Type 0 where
-  pub number : FlowNo
-  pub def : FlowDef
-  pub input : Doc
-  pub variables : Doc
-  pub status : FlowStatus
-  pub correlation : List ℕ
-  pub attempts : List Seen
-
-unfoldable pub sight : Flow → Sight
-sight flow =
-    record {
-      number = flow.number;
-      def = flow.def;
-      input = flow.input;
-      variables = flow.variables;
-      status = flow.status;
-      correlation = flow.correlation;
-      attempts = map seen flow.attempts;
-    }
-
 -- what expressions may name: of a flow no moment, and no number but its own
 pub record Told : Type 0 where
   pub number : FlowNo
@@ -78,25 +54,3 @@ told flow =
       def = flow.def;
       attempts = map seen flow.attempts;
     }
-
--- the same by what the rules see
-abbrev pub told_by : Sight → Told
-told_by s =
-    record {
-      number = s.number;
-      correlation = s.correlation;
-      input = s.input;
-      variables = s.variables;
-      def = s.def;
-      attempts = s.attempts;
-    }
-
--- what they read beside the flow
-pub record Scene : Type 0 where
-  -- that of the store
-  pub mark : ℕ
-  pub task_defs : List TaskDef
-
--- what stands beside a flow in the state
-abbrev pub scene_in : State → Scene
-scene_in s = record { mark = s.mark; task_defs = s.task_defs }

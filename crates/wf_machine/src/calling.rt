@@ -61,6 +61,10 @@ pub enum Call {
         task: TaskNo,
         outcome: TaskResult,
     },
+    /// Decides a flow.
+    Decide(FlowNo),
+    /// Decides the flow of the least number that has something to be decided.
+    Sweep,
 }
 
 #[derive(Drop)]

@@ -4,18 +4,15 @@
 //! milliseconds; what is counted in seconds says so.
 #![tactic(auto)]
 
-mod acting;
 mod calling;
 mod cases;
 mod copying;
 mod definition;
-pub mod laws;
 mod no_memory;
 mod sight;
 mod timed;
 mod walking;
 
-pub use acting::{Act, NewAttempt};
 pub use calling::{Call, Entry, Reply, TaskResult};
 pub use definition::{
     Branch, Case, Cases, Count, FlowDef, FlowDefs, Node, NodeKind, Nodes, TaskDef, TaskDefs,

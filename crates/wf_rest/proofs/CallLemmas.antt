@@ -1,22 +1,19 @@
 -- The calls of requests are proper.
-use Rattle.std.proofs.Common.{◌≡◌, ℕ, Bool, true, false, ◌≤◌, Option, Some, None, List, [], ◌∷◌, map, refl, subst, arith, Result, Ok, Err, nat_le}
+use Rattle.std.proofs.Common.{◌≡◌, ℕ, Bool, true, false, ◌≤◌, Option, Some, None, List, refl, subst, arith, Result, Ok, Err, nat_le}
 use Rattle.std.specs.Prelude.{codes, if◌then◌else◌, option_and_then, unwrap_or}
-use Rattle.std.specs.List.{list_all}
 use Rattle.std.proofs.lemmas.Bool.{leb-true}
 use Rattle.wf_doc.specs.declared.doc.Doc.{Doc}
 use Rattle.wf_wire.specs.Request.{Request}
 use Rattle.wf_wire.specs.declared.limits.Limits.{Limits}
 use Rattle.wf_machine.specs.declared.calling.Call.{Call}
-use Rattle.wf_machine.specs.Calls.{IsProper}
+use Rattle.wf_steps.specs.Calls.{IsProper}
 use Rattle.wf_fields.specs.Fields.{given, as_whole, as_count, count}
+use Rattle.wf_names.specs.TaskStatus.{task_status_named}
+use Rattle.wf_doc.specs.Doc.{as_text}
 use Rattle.wf_names.specs.declared.statuses.TaskStatus.{TaskStatus}
 use Rattle.wf_names.specs.declared.statuses.TaskStatus.TheVariants.{Scheduled, InProgress, Completed, CompletedWithErrors, Skipped, Failed, FailedWithTerminalError, TimedOut, Canceled}
 use Rattle.wf_machine.specs.declared.calling.Call.TheVariants as call
-use Rattle.wf_machine.specs.declared.definition.FlowDef.{FlowDef}
 use Rattle.wf_defs.specs.declared.faults.DefFault.{DefFault}
-use Rattle.wf_defs.specs.FlowRules.{flow_rule}
-use Rattle.wf_defs.specs.FlowReading.{flow_definition}
-use Rattle.wf_defs.specs.Several.{first_fault_in}
 use Rattle.wf_routes.specs.declared.table.Route.{Route}
 use Rattle.wf_routes.specs.declared.table.Route.TheVariants as route
 use Rattle.wf_routes.specs.Queries.{QueryPair}
@@ -46,19 +43,6 @@ unbroken_fits : (o : Option DefFault) (c : Call) → IsProper c → Fits (body.u
 unbroken_fits None c proper = proper
 unbroken_fits (Some broken) c proper = tt {0}
 
-built_fits : (defs : List FlowDef) (c : Call) → IsProper c → Fits (body.if_built defs c)
-built_fits defs c proper = either_fits (list_all body.is_built defs) (Ok c) _ proper (tt {0})
-
-flow_fits : (most : ℕ) (d : Doc) → Fits (body.flow_def_of most d)
-flow_fits most d =
-    then_fits (body.unless_broken (flow_rule most d) (flow_definition most d)) (λ (def : FlowDef). body.if_built (def ∷ []) (call.AddFlowDef def))
-    (λ (def : FlowDef). built_fits (def ∷ []) (call.AddFlowDef def) (tt {0}))
-
-flows_fit : (most : ℕ) (ds : List Doc) → Fits (body.flow_defs_of most ds)
-flows_fit most ds =
-    then_fits (body.unless_broken (first_fault_in (flow_rule most) 0 ds) (map (flow_definition most) ds)) (λ (defs : List FlowDef). body.if_built defs (call.PutFlowDefs defs))
-    (λ (defs : List FlowDef). built_fits defs (call.PutFlowDefs defs) (tt {0}))
-
 -- ---- the delay of an update
 
 bounded : (b : Bool) (n : ℕ) → (b ≡ true → n ≤ 2147483647) → unwrap_or (if b then Some n else None) 0 ≤ 2147483647
@@ -73,17 +57,22 @@ callback_bounded : (o : Option Doc) → unwrap_or (option_and_then as_count o) 0
 callback_bounded None = omega arith
 callback_bounded (Some v) = whole_bounded (as_whole v)
 
-update_fits : (mark : ℕ) (d : Doc) (o : Option TaskStatus) → Fits (body.update_with mark d o)
+-- a status that a worker may tell
+told_fits : (mark : ℕ) (d : Doc) (o : Option TaskStatus) → Fits (body.update_with mark d (option_and_then body.if_result o))
+told_fits mark d None = tt {0}
+told_fits mark d (Some Scheduled) = tt {0}
+told_fits mark d (Some InProgress) = (refl, callback_bounded (given (codes "callbackAfterSeconds") d))
+told_fits mark d (Some Completed) = (refl, callback_bounded (given (codes "callbackAfterSeconds") d))
+told_fits mark d (Some CompletedWithErrors) = tt {0}
+told_fits mark d (Some Skipped) = tt {0}
+told_fits mark d (Some Failed) = (refl, callback_bounded (given (codes "callbackAfterSeconds") d))
+told_fits mark d (Some FailedWithTerminalError) = (refl, callback_bounded (given (codes "callbackAfterSeconds") d))
+told_fits mark d (Some TimedOut) = tt {0}
+told_fits mark d (Some Canceled) = tt {0}
+
+update_fits : (mark : ℕ) (d : Doc) (o : Option Doc) → Fits (body.update_with mark d (option_and_then body.told_status o))
 update_fits mark d None = tt {0}
-update_fits mark d (Some Scheduled) = tt {0}
-update_fits mark d (Some InProgress) = tt {0}
-update_fits mark d (Some Completed) = (refl, callback_bounded (given (codes "callbackAfterSeconds") d))
-update_fits mark d (Some CompletedWithErrors) = tt {0}
-update_fits mark d (Some Skipped) = tt {0}
-update_fits mark d (Some Failed) = tt {0}
-update_fits mark d (Some FailedWithTerminalError) = tt {0}
-update_fits mark d (Some TimedOut) = tt {0}
-update_fits mark d (Some Canceled) = tt {0}
+update_fits mark d (Some v) = told_fits mark d (option_and_then task_status_named (as_text v))
 
 -- ---- routes
 
@@ -110,8 +99,8 @@ module _ (limits : Limits) (mark : ℕ) (path : List ℕ) (query : List QueryPai
   route_fits route.TaskDefs = tt {0}
   route_fits route.TaskDefNamed = of_named 4 _ (λ name. tt {0})
   route_fits route.DropTaskDef = of_named 4 _ (λ name. tt {0})
-  route_fits route.AddFlowDef = of_document _ (flow_fits limits.nodes)
-  route_fits route.PutFlowDefs = of_document _ (λ d. then_fits (body.items_of_body d) _ (flows_fit limits.nodes))
+  route_fits route.AddFlowDef = of_document _ (λ d. unbroken_fits _ (call.AddFlowDef _) (tt {0}))
+  route_fits route.PutFlowDefs = of_document _ (λ d. then_fits (body.items_of_body d) _ (λ ds. unbroken_fits _ (call.PutFlowDefs _) (tt {0})))
   route_fits route.FlowDefs = tt {0}
   route_fits route.FlowDefNamed = of_named 4 _ (λ name. then_fits (spec.version_query query) _ (λ version. tt {0}))
   route_fits route.DropFlowDef = of_named 4 _ (λ name. then_fits (spec.version_parameter 5 path) _ (λ version. tt {0}))
@@ -121,7 +110,7 @@ module _ (limits : Limits) (mark : ℕ) (path : List ℕ) (query : List QueryPai
   route_fits route.Running = of_named 4 _ (λ name. then_fits (spec.version_query query) _ (λ version. tt {0}))
   route_fits route.Poll = poll_fits
   route_fits route.GetTask = of_named 3 _ (λ text. tt {0})
-  route_fits route.Update = of_document _ (λ d. then_fits (body.if_formed (body.is_update d) d) _ (λ (d' : Doc). update_fits mark d' _))
+  route_fits route.Update = of_document _ (λ d. then_fits (body.if_formed (body.is_update d) d) _ (λ (d' : Doc). update_fits mark d' (given (codes "status") d')))
   route_fits route.Terminate = tt {0}
   route_fits route.Remove = tt {0}
   route_fits route.Pause = tt {0}
@@ -129,7 +118,7 @@ module _ (limits : Limits) (mark : ℕ) (path : List ℕ) (query : List QueryPai
   route_fits route.Restart = tt {0}
   route_fits route.Retry = tt {0}
   route_fits route.Rerun = tt {0}
-  route_fits route.Decide = tt {0}
+  route_fits route.Decide = of_named 4 _ (λ text. tt {0})
   route_fits route.Skip = tt {0}
   route_fits route.PollBatch = tt {0}
   route_fits route.Sweep = tt {0}

@@ -10,12 +10,11 @@ use Rattle.wf_machine.specs.declared.calling.Call.{Call}
 use Rattle.wf_machine.specs.declared.calling.Reply.{Reply}
 use Rattle.wf_machine.specs.declared.calling.Entry.{Entry}
 use Rattle.wf_machine.specs.State.{State}
-use Rattle.wf_machine.specs.Calls.{is_starved, entry_of}
-use Rattle.wf_machine.specs.History.{stored, state_after, replies_of}
-use Rattle.wf_rest.specs.Serving.{call_of}
+use Rattle.wf_steps.specs.Calls.{is_starved, entry_of}
+use Rattle.wf_steps.specs.History.{stored, state_after, replies_of}
+use Rattle.wf_rest.specs.Serving.{call_of, Answered, IsAsked, IsLegal, entry_made, entry_with, fits, history_of, moment_after, replies_made, reply_made, reply_with, wire, answer_bytes}
 use Rattle.wf_rest.specs.Moments.{moment_at}
-use Rattle.wf_rest.specs.Serving.{Answered, IsAsked, IsLegal, entry_made, entry_with, fits, history_of, moment_after, replies_made, reply_made, reply_with, wire, answer_bytes}
-use Rattle.wf_machine.proofs.HistoryLemmas.{state-more, replies-more}
+use Rattle.wf_steps.proofs.HistoryLemmas.{state-more, replies-more}
 
 -- what one more request adds to a history
 record Adds (limits : Limits) (start new : State) (history : List Entry) (given : List Reply) (call : Option Call) (reply : Option Reply) (entry : Option Entry) : Type 0 where

@@ -1,6 +1,5 @@
 -- What the bodies of requests say. A field that is null counts as absent, and other keys are ignored.
-use Rattle.std.specs.Prelude.{ℕ, ◌==◌, ◌&&◌, ◌||◌, Bool, true, false, if◌then◌else◌, List, [], ◌∷◌, length, map, codes, Option, None, Some, is_some, is_none, option_and_then, Result, Ok, Err}
-use Rattle.std.specs.List.{list_all}
+use Rattle.std.specs.Prelude.{ℕ, ◌==◌, ◌&&◌, ◌||◌, Bool, true, false, if◌then◌else◌, List, length, map, codes, Option, None, Some, is_some, is_none, option_and_then, Result, Ok, Err}
 use Rattle.std.specs.Option.{option_map_or}
 use Rattle.wf_doc.specs.declared.doc.Doc.{Doc}
 use Rattle.wf_doc.specs.Doc.{as_text, as_list, as_table}
@@ -9,14 +8,10 @@ use Rattle.wf_names.specs.declared.ids.IdKind.{IdKind}
 use Rattle.wf_names.specs.declared.ids.IdKind.TheVariants as kind
 use Rattle.wf_names.specs.Ids.{id_read, kind_octet}
 use Rattle.wf_names.specs.declared.statuses.TaskStatus.{TaskStatus}
-use Rattle.wf_names.specs.declared.statuses.TaskStatus.TheVariants.{Completed}
 use Rattle.wf_names.specs.TaskStatus.{task_status_named}
 use Rattle.wf_machine.specs.declared.calling.Call.{Call}
 use Rattle.wf_machine.specs.declared.calling.Call.TheVariants.{PutTaskDefs, UpdateTaskDef, AddFlowDef, PutFlowDefs, Start, Update}
 use Rattle.wf_machine.specs.declared.calling.TaskResult.{TaskResult}
-use Rattle.wf_machine.specs.declared.definition.FlowDef.{FlowDef}
-use Rattle.wf_machine.specs.declared.definition.Node.{Node}
-use Rattle.wf_machine.specs.Records.{is_simple}
 use Rattle.wf_machine.specs.Tasks.{is_result_status}
 use Rattle.wf_fields.specs.declared.fields.Form.TheVariants.{AText, ATable}
 use Rattle.wf_fields.specs.Fields.{given, is_given, is_absent_or, is_number, has_form, text_in, number_or, table_in, as_count}
@@ -55,17 +50,6 @@ abbrev pub unless_broken : {T : Type 0} → Option DefFault → T → Result T H
 unless_broken None v = Ok v
 unless_broken (Some broken) v = Err (definition_fault broken)
 
-abbrev pub is_task_node : Node → Bool
-is_task_node node = is_simple node.kind
-
--- a definition whose nodes are all of the type that is built
-abbrev pub is_built : FlowDef → Bool
-is_built def = list_all is_task_node def.nodes
-
--- the call, where all of the definitions are built
-abbrev pub if_built : List FlowDef → Call → Asked
-if_built defs call = if list_all is_built defs then Ok call else Err fault.NotBuilt
-
 -- the items of the list that the body is
 abbrev pub items_of_body : Doc → Result (List Doc) HttpFault
 items_of_body d = option_map_or Ok (as_list d) (Err fault.BadBody)
@@ -77,15 +61,12 @@ task_defs_of ds = unless_broken (first_fault_in task_rule 0 ds) (PutTaskDefs (ma
 abbrev pub task_def_of : Doc → Asked
 task_def_of d = unless_broken (task_rule d) (UpdateTaskDef (task_definition d))
 
--- workflow definitions. That a node's type isn't built is told after all rules of all of them
+-- workflow definitions
 abbrev pub flow_def_of : ℕ → Doc → Asked
-flow_def_of most d =
-    then_read (unless_broken (flow_rule most d) (flow_definition most d)) (λ (def : FlowDef). if_built (def ∷ []) (AddFlowDef def))
+flow_def_of most d = unless_broken (flow_rule most d) (AddFlowDef (flow_definition most d))
 
 abbrev pub flow_defs_of : ℕ → List Doc → Asked
-flow_defs_of most ds =
-    then_read (unless_broken (first_fault_in (flow_rule most) 0 ds) (map (flow_definition most) ds))
-    (λ (defs : List FlowDef). if_built defs (PutFlowDefs defs))
+flow_defs_of most ds = unless_broken (first_fault_in (flow_rule most) 0 ds) (PutFlowDefs (map (flow_definition most) ds))
 
 -- ---- starts
 
@@ -158,11 +139,12 @@ result_of status d =
       worker = option_and_then as_text (given (codes "workerId") d);
     }
 
--- of the statuses that a worker may tell COMPLETED alone is built
 abbrev pub update_with : ℕ → Doc → Option TaskStatus → Asked
-update_with mark d (Some Completed) =
-    Ok (Update (wanted_flow mark (text_in (codes "workflowInstanceId") d)) (record { 0 = id_number mark kind.Task (text_in (codes "taskId") d) }) (result_of Completed d))
-update_with mark d status = Err fault.NotBuilt
+update_with mark d None = Err fault.BadBody
+update_with mark d (Some status) =
+    Ok
+    (Update (wanted_flow mark (text_in (codes "workflowInstanceId") d)) (record { 0 = id_number mark kind.Task (text_in (codes "taskId") d) })
+    (result_of status d))
 
 abbrev pub update_of : ℕ → Doc → Asked
 update_of mark d =

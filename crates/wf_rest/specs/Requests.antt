@@ -151,6 +151,9 @@ poll path query =
 abbrev pub get_task : ℕ → List ℕ → Asked
 get_task mark path = then_read (parameter 3 path) (λ text. Ok (call.GetTask (record { 0 = id_number mark kind.Task text })))
 
+abbrev pub decide : ℕ → List ℕ → Asked
+decide mark path = then_read (parameter 4 path) (λ text. Ok (call.Decide (record { 0 = id_number mark kind.Flow text })))
+
 -- the call of a request with that route. What isn't built says so before it is read further
 unfoldable pub by_route : Limits → ℕ → List ℕ → List QueryPair → List ℕ → Route → Asked
 by_route limits mark path query body route.PutTaskDefs = put_task_defs limits body
@@ -170,6 +173,8 @@ by_route limits mark path query body route.Running = running path query
 by_route limits mark path query body route.Poll = poll path query
 by_route limits mark path query body route.GetTask = get_task mark path
 by_route limits mark path query body route.Update = then_read (document_of limits body) (update_of mark)
+by_route limits mark path query body route.Decide = decide mark path
+by_route limits mark path query body route.Sweep = Ok call.Sweep
 by_route limits mark path query body other = Err fault.NotBuilt
 
 -- the methods that a path has

@@ -10,9 +10,9 @@ use Rattle.wf_machine.specs.declared.calling.Reply.{Reply}
 use Rattle.wf_machine.specs.declared.calling.Reply.TheVariants.{Refused}
 use Rattle.wf_machine.specs.declared.calling.Entry.{Entry}
 use Rattle.wf_machine.specs.State.{State}
-use Rattle.wf_machine.specs.Calls.{stepped, is_starved, entry_of, step}
+use Rattle.wf_steps.specs.Calls.{stepped, is_starved, entry_of, step}
 use Rattle.wf_machine.specs.Text.{same_text}
-use Rattle.wf_machine.specs.History.{replies_of}
+use Rattle.wf_steps.specs.History.{replies_of}
 use Rattle.wf_rest.specs.Responses.{printed_reply, printed_fault}
 use Rattle.wf_rest.specs.Moments.{moment_at}
 use Rattle.wf_rest.specs.declared.faulting.HttpFault.{HttpFault}

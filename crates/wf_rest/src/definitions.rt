@@ -1,14 +1,13 @@
 //! Definitions that requests register or change.
 
 ghost use Rattle.std.specs.Prelude.{◌≡◌, ◌≢◌, Err, IfErr, IfOk, Ok};
-ghost use Rattle.std.specs.List.{list_all};
 ghost use Rattle.wf_rest.specs.Bodies as spec;
 
 use crate::faulting::HttpFault;
 use std::alloc::Global;
 use wf_defs::{DefFault, read_flowdef, read_flowdefs, read_taskdef, read_taskdefs};
 use wf_doc::Doc;
-use wf_machine::{Call, FlowDef, Node, NodeKind};
+use wf_machine::Call;
 use wf_wire::Limits;
 
 /// Tasks that are registered, each in place of one of its name.
@@ -39,11 +38,7 @@ pub fn flow_def_of(alloc: Global, doc: Doc, limits: &Limits) -> Result<Call, Htt
     ensures err { IfErr result (λ fault. fault ≢ HttpFault.NoMemory → spec.flow_def_of limits.now.nodes doc ≡ Err fault) }
 {
     match read_flowdef(alloc, doc, limits) {
-        Ok(def) => if is_built(&def) {
-            Ok(Call::AddFlowDef(def))
-        } else {
-            Err(HttpFault::NotBuilt)
-        },
+        Ok(def) => Ok(Call::AddFlowDef(def)),
         Err(fault) => Err(definition_fault(fault)),
     }
 }
@@ -54,11 +49,7 @@ pub fn flow_defs_of(alloc: Global, docs: &[Doc], limits: &Limits) -> Result<Call
     ensures err { IfErr result (λ fault. fault ≢ HttpFault.NoMemory → spec.flow_defs_of limits.now.nodes docs.now ≡ Err fault) }
 {
     match read_flowdefs(alloc, docs, limits) {
-        Ok(defs) => if are_built(defs.as_slice()) {
-            Ok(Call::PutFlowDefs(defs))
-        } else {
-            Err(HttpFault::NotBuilt)
-        },
+        Ok(defs) => Ok(Call::PutFlowDefs(defs)),
         Err(fault) => Err(definition_fault(fault)),
     }
 }
@@ -69,27 +60,5 @@ fn definition_fault(fault: DefFault) -> HttpFault
     match fault {
         DefFault::Rule { rule, place } => HttpFault::BadDefinition(rule, place),
         DefFault::NoMemory => HttpFault::NoMemory,
-    }
-}
-
-fn are_built(defs: &[FlowDef]) -> bool
-    ensures { result ≡ list_all spec.is_built defs.now }
-{
-    defs.iter().all(is_built)
-}
-
-/// All of its nodes are tasks, which alone can be run today.
-fn is_built(def: &FlowDef) -> bool
-    ensures { result ≡ spec.is_built def.now }
-{
-    def.nodes.as_slice().iter().all(is_task_node)
-}
-
-fn is_task_node(node: &Node) -> bool
-    ensures { result ≡ spec.is_task_node node.now }
-{
-    match node.kind {
-        NodeKind::Simple => true,
-        _ => false,
     }
 }

@@ -1,7 +1,7 @@
 //! Requests as calls of the machine.
 
 ghost use Rattle.std.specs.Prelude.{◌≡◌, ◌≢◌, Err, IfErr, IfOk, Ok};
-ghost use Rattle.wf_machine.specs.Calls.{IsProper};
+ghost use Rattle.wf_steps.specs.Calls.{IsProper};
 ghost use Rattle.wf_routes.specs.Paths.{path_of};
 ghost use Rattle.wf_routes.specs.Queries.{query_pairs};
 ghost use Rattle.wf_rest.specs.Requests as spec;

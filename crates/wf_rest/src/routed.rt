@@ -51,6 +51,8 @@ pub fn by_route(
         Route::Poll => poll(alloc, path, query),
         Route::GetTask => get_task(alloc, mark, path),
         Route::Update => update_of(alloc, mark, &document_of(alloc, limits, body)?),
+        Route::Decide => decide(alloc, mark, path),
+        Route::Sweep => Ok(Call::Sweep),
         _ => Err(HttpFault::NotBuilt),
     }
 }
@@ -147,4 +149,12 @@ fn get_task(alloc: Global, mark: u32, path: &str) -> Result<Call, HttpFault>
 {
     let id = parameter(alloc, path, 3)?;
     Ok(Call::GetTask(task_named(mark, id.as_str())))
+}
+
+fn decide(alloc: Global, mark: u32, path: &str) -> Result<Call, HttpFault>
+    ensures ok { IfOk result (λ call. spec.decide mark path.now ≡ Ok call) }
+    ensures err { IfErr result (λ fault. fault ≢ HttpFault.NoMemory → spec.decide mark path.now ≡ Err fault) }
+{
+    let id = parameter(alloc, path, 4)?;
+    Ok(Call::Decide(flow_named(mark, id.as_str())))
 }

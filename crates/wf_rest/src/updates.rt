@@ -16,7 +16,7 @@ use wf_fields::{
 use wf_machine::{Call, TaskResult};
 use wf_names::{FlowNo, TaskStatus};
 
-/// The update that a body describes. It is NotBuilt where the body has its form and its status isn't COMPLETED.
+/// The update that a body describes.
 pub fn update_of(alloc: Global, mark: u32, doc: &Doc) -> Result<Call, HttpFault>
     ensures ok { IfOk result (λ call. spec.update_of mark doc.now ≡ Ok call) }
     ensures err { IfErr result (λ fault. fault ≢ HttpFault.NoMemory → spec.update_of mark doc.now ≡ Err fault) }
@@ -25,19 +25,19 @@ pub fn update_of(alloc: Global, mark: u32, doc: &Doc) -> Result<Call, HttpFault>
         return Err(HttpFault::BadBody);
     }
     match status_in(doc) {
-        Some(TaskStatus::Completed) => Ok(completion_of(alloc, mark, doc)?),
-        _ => Err(HttpFault::NotBuilt),
+        Some(status) => Ok(update_with(alloc, mark, doc, status)?),
+        None => Err(HttpFault::BadBody),
     }
 }
 
-/// The update of a completed task.
-fn completion_of(alloc: Global, mark: u32, doc: &Doc) -> Result<Call, NoMemory>
-    ensures { IfOk result (λ call. spec.update_with mark doc.now (Some TaskStatus.Completed) ≡ Ok call) }
+/// The update that tells that status.
+fn update_with(alloc: Global, mark: u32, doc: &Doc, status: TaskStatus) -> Result<Call, NoMemory>
+    ensures { IfOk result (λ call. spec.update_with mark doc.now (Some status) ≡ Ok call) }
 {
     Ok(Call::Update {
         flow: wanted_flow(mark, text_in(doc, "workflowInstanceId")),
         task: task_named(mark, text_in(doc, "taskId")),
-        outcome: result_of(alloc, TaskStatus::Completed, doc)?,
+        outcome: result_of(alloc, status, doc)?,
     })
 }
 

@@ -32,7 +32,7 @@ use Rattle.wf_machine.specs.Sight.{Seen}
 use Rattle.wf_rules.specs.Sight.{Sight, Scene, sight}
 use Rattle.wf_machine.specs.Marks.{next_step, node_at}
 use Rattle.wf_rules.specs.Outputs.{with_key, join_output, child_output, entries_of, with_all, is_too_large, filled_in, turns_on}
-use Rattle.wf_machine.specs.Rules.{task_def_named}
+use Rattle.wf_machine.specs.Registered.{task_def_named}
 use Rattle.wf_rules.specs.Scheduling.{attempt_at, fails, within, adding, end_by, named_end, schedule_task, schedule_kind}
 use Rattle.wf_rules.specs.Acts.{Turn, births}
 use Rattle.wf_rules.specs.Rules.{flow_output, child_outcome, first_some, first_due, first_lost, last_place, timing_at, policy_of, parent_ended, ran_too_long, by_policy, past_due, retried_by, retry_of, is_optional, unretried, lost, turned_on, turn_of_loop, take_step, all_done, r0, r1, r2, r3, r4, r5, r6, first_of, rules, is_running, pick, Room, room, is_add, store_full, fitted_child, fitted, allowed, choose}

@@ -50,8 +50,7 @@ use Rattle.wf_machine.specs.Marks.{is_of, last_of, mark_of, next_step, node_at, 
 use Rattle.wf_machine.specs.Records.{is_kind_at, is_simple, is_loop}
 use Rattle.wf_machine.specs.Text.{same_text}
 use Rattle.wf_expr.specs.Filling.{text_of_any}
-use Rattle.wf_machine.specs.Rules.{task_def_named}
-use Rattle.wf_machine.specs.Calls.{flow_def_for}
+use Rattle.wf_machine.specs.Registered.{task_def_named, flow_def_for}
 use Rattle.wf_rules.specs.Loops.{heads, LoopsFit}
 use Rattle.wf_rules.specs.Outputs.{is_too_large, child_output, choice_output, entries_of, with_all, filled_in, count_of, turns_on, join_output, with_key}
 use Rattle.wf_rules.specs.Scheduling.{table_at, fails, within, adding, adding_one, attempt_at, counted_at, loop_at, failed_at, wait_here, wait_at, sub_flow_at, refused_at, child_at, end_named, named_end, end_by, schedule_task, task_at, schedule_kind, schedule}

@@ -1,5 +1,6 @@
 pub mod SightLemmas
 pub mod LoopLemmas
+pub mod OpenLemmas
 pub mod FallLemmas
 pub mod PlanLemmas
 pub mod EndLemmas

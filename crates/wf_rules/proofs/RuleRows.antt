@@ -1,7 +1,6 @@
 -- Worked rows of the rules: a flow of SIMPLE nodes at a moment, and what the first rule that applies wants done. Each was worked out by hand.
 use Rattle.std.proofs.Common.{◌≡◌, ℕ, Bool, true, false, List, [], ◌∷◌, codes, pos, refl, None, Some}
 use Rattle.std.specs.Prelude.{Option}
-use Rattle.wf_doc.specs.declared.doc.Doc.{Doc}
 use Rattle.wf_doc.specs.declared.doc.Doc.TheVariants.{Null}
 use Rattle.wf_names.specs.declared.statuses.TaskStatus.{TaskStatus}
 use Rattle.wf_names.specs.declared.statuses.TaskStatus.TheVariants as task
@@ -17,11 +16,11 @@ use Rattle.wf_machine.specs.declared.timed.RetryLogic.TheVariants.{Fixed}
 use Rattle.wf_machine.specs.declared.timed.TaskPolicy.{TaskPolicy}
 use Rattle.wf_machine.specs.declared.timed.TaskPolicy.TheVariants.{Retry, TimeOutWf, AlertOnly}
 use Rattle.wf_machine.specs.declared.timed.Timing.{Timing}
-use Rattle.wf_machine.specs.State.{Attempt, Flow, empty_table, new_attempt, new_flow}
+use Rattle.wf_machine.specs.State.{Attempt, empty_table, new_attempt, new_flow}
 use Rattle.wf_machine.specs.Marks.{last_of, node_at}
 use Rattle.wf_rules.specs.declared.acting.Act.{Act}
 use Rattle.wf_rules.specs.declared.acting.Act.TheVariants.{Add, Close, Note, Forgive, NoteFlow, End}
-use Rattle.wf_rules.specs.declared.acting.Alert.TheVariants.{Poll, Total}
+use Rattle.wf_rules.specs.declared.acting.Alert.TheVariants.{Poll}
 use Rattle.wf_rules.specs.declared.acting.Begin.TheVariants.{Queued}
 use Rattle.wf_rules.specs.declared.acting.Child.TheVariants.{Nothing}
 use Rattle.wf_rules.specs.declared.acting.Outcome.{Outcome}

@@ -40,15 +40,13 @@ use Rattle.wf_machine.specs.declared.walking.Next.{Next}
 use Rattle.wf_machine.specs.declared.walking.Next.TheVariants.{Schedule, Join as Joins, Turn as Turns, Waits, Done as AllDone}
 use Rattle.wf_machine.specs.Text.{same_text}
 use Rattle.wf_time.specs.Durations.{duration}
-use Rattle.wf_machine.specs.State.{Flow, empty_table}
+use Rattle.wf_machine.specs.State.{empty_table}
 use Rattle.wf_machine.specs.Sight.{Seen}
 use Rattle.wf_rules.specs.Sight.{Sight, Scene, sight}
-use Rattle.wf_machine.specs.Marks.{last_of, mark_of, next_step, node_at, all_nodes}
+use Rattle.wf_machine.specs.Marks.{last_of, mark_of, next_step, node_at}
 use Rattle.wf_machine.specs.Records.{IsMoment, IsRecord, is_kind_at, is_simple, is_sub_flow, is_loop}
 use Rattle.wf_machine.specs.Naming.{with_template}
-use Rattle.wf_machine.specs.Rules.{task_def_named}
-use Rattle.wf_machine.specs.Calls.{flow_def_for}
-use Rattle.wf_rules.specs.Loops.{heads, LoopsFit}
+use Rattle.wf_machine.specs.Registered.{task_def_named, flow_def_for}
 use Rattle.wf_rules.specs.Outputs.{is_too_large, filled_in, count_of, turns_on, join_output, with_key, child_output, choice_output, entries_of, with_all}
 use Rattle.wf_rules.specs.Scheduling.{fails, within, adding_one, attempt_at, counted_at, loop_at, failed_at, wait_here, wait_at, sub_flow_at, refused_at, child_at, end_named, named_end, end_by, schedule_task, task_at, schedule_kind, schedule}
 use Rattle.wf_rules.specs.Acts.{Turn, make, made}
@@ -57,9 +55,9 @@ use Rattle.wf_rules.specs.Plans.{AllBelow, is_of_sub_flow}
 use Rattle.wf_rules.specs.Making.{is_queued, is_held, IsFit, OpenAt, CanMake, CanMakeAll}
 use Rattle.wf_rules.proofs.SightLemmas.{shown, sight_make}
 use Rattle.wf_rules.proofs.PlanLemmas.{below_mono, made_flows}
-use Rattle.wf_rules.proofs.LoopLemmas.{Asked, asked_step}
+use Rattle.wf_rules.proofs.OpenLemmas.{IsAtOpen, open_step}
 use Rattle.wf_rules.proofs.FallLemmas.{AtLast, at_last}
-use Rattle.wf_rules.proofs.EndLemmas.{IfFound, IsSeen, due_at, end_at, lost_at, open_mark, node_index, is_seen, made_def}
+use Rattle.wf_rules.proofs.EndLemmas.{IfFound, IsSeen, due_at, end_at, lost_at, open_mark, node_index, is_seen}
 use Rattle.wf_rules.proofs.MakeLemmas.{record_made}
 
 -- the acts can be made of the flow that is seen so
@@ -365,12 +363,12 @@ fit_turns : (limits : Limits) (s : Sight) (index i : ℕ) (o : Option Node) → 
 fit_turns limits s index i None h = tt
 fit_turns limits s index i (Some n) h = fit_turn limits s index i n (last_place s.attempts index i) (at_last s.attempts index i) h
 
-fit_step : (hs : List (ℕ × ℕ)) (limits : Limits) (scene : Scene) (s : Sight) (next : Next) → is_running s.status ≡ true → Asked hs s.attempts next → AreFit s (take_step limits scene s next)
-fit_step hs limits scene s (Schedule index i) runs h = fit_schedule limits scene s index i (node_at s.def.nodes index) refl runs
-fit_step hs limits scene s (Joins index i) runs h = fit_joined limits s (join_output s index i) index i (last_place s.attempts index i) (at_last s.attempts index i) h
-fit_step hs limits scene s (Turns index i) runs h = rw (h.0) (fit_turns limits s index 0 (node_at s.def.nodes index) h.1)
-fit_step hs limits scene s Waits runs h = tt
-fit_step hs limits scene s AllDone runs h = tt
+fit_step : (limits : Limits) (scene : Scene) (s : Sight) (next : Next) → is_running s.status ≡ true → IsAtOpen s.attempts next → AreFit s (take_step limits scene s next)
+fit_step limits scene s (Schedule index i) runs h = fit_schedule limits scene s index i (node_at s.def.nodes index) refl runs
+fit_step limits scene s (Joins index i) runs h = fit_joined limits s (join_output s index i) index i (last_place s.attempts index i) (at_last s.attempts index i) h
+fit_step limits scene s (Turns index i) runs h = fit_turns limits s index i (node_at s.def.nodes index) h
+fit_step limits scene s Waits runs h = tt
+fit_step limits scene s AllDone runs h = tt
 
 -- ---- all rules
 
@@ -396,9 +394,9 @@ fit_first : (s : Sight) (x : Option (List Act)) (rest : List (Option (List Act))
 fit_first s None rest p q = q
 fit_first s (Some acts) rest p q = p
 
-pub pick_fits : (limits : Limits) (scene : Scene) (s : Sight) → LoopsFit s.def.nodes → IsSeen s → AreFit s (pick limits scene s)
+pub pick_fits : (limits : Limits) (scene : Scene) (s : Sight) → IsSeen s → AreFit s (pick limits scene s)
 unfolding pick
-pick_fits limits scene s fit h = by_status (is_running s.status) refl where
+pick_fits limits scene s h = by_status (is_running s.status) refl where
   by_status : (b : Bool) → is_running s.status ≡ b → AreFit s (if b then first_of (rules limits scene s) else None)
   by_status false runs = tt
   by_status true runs =
@@ -407,7 +405,7 @@ pick_fits limits scene s fit h = by_status (is_running s.status) refl where
       (fit_first s (r2 s) _ (fit_map s (first_due s.due) _ (λ q. past_due s q.0 q.1) (due_at s.attempts s.due h.dues) (λ q k. fits_past_due s q.0 q.1 k.0))
       (fit_first s (r3 limits scene s) _ (fit_map s (first_some s.ended) _ (λ q. child_ended limits scene q.0 q.1) (end_at s.attempts s.ended h.ends) (λ q k. fits_child limits scene s q.0 q.1 k))
       (fit_first s (r4 limits s) _ (fit_map s (first_lost s.attempts) _ (λ q. lost limits s q.0 q.1) (lost_at s.attempts) (λ q k. fits_lost limits s q.0 q.1 runs k.0 k.1))
-      (fit_first s (r5 limits scene s) _ (fit_step (heads (all_nodes s.def.nodes)) limits scene s (next_step s.attempts s.def.nodes) runs (asked_step s.attempts s.def.nodes fit.whole))
+      (fit_first s (r5 limits scene s) _ (fit_step limits scene s (next_step s.attempts s.def.nodes) runs (open_step s.attempts s.def.nodes))
       (fit_first s (r6 limits scene s) [] (fit_done limits scene s (next_step s.attempts s.def.nodes)) tt))))))
 
 -- ---- the acts of a rule, made of a flow
@@ -427,15 +425,11 @@ can_do_made e cs (act ∷ rest) t below h = (
       (subst (λ (s : Sight). CanDo s rest) (sym (sight_make e cs act t below)) h.1),
 )
 
-same_nodes : (e : ℕ) (cs : List ChildState) (f : Flow) → LoopsFit f.def.nodes → LoopsFit (sight e cs f).def.nodes
-unfolding sight
-same_nodes e cs f h = h
-
 -- what the first rule that applies wants done can be made
-pub chosen_fits : (limits : Limits) (scene : Scene) (kept e : ℕ) (t : Turn) (acts : List Act) → AllBelow t.next_flow scene.children → LoopsFit t.flow.def.nodes
+pub chosen_fits : (limits : Limits) (scene : Scene) (kept e : ℕ) (t : Turn) (acts : List Act) → AllBelow t.next_flow scene.children
     → choose limits scene kept e t ≡ Some acts → CanMakeAll e acts t
-chosen_fits limits scene kept e t acts below fit is =
-    by_pick (pick limits scene (sight e scene.children t.flow)) (pick_fits limits scene (sight e scene.children t.flow) (same_nodes e scene.children t.flow fit) (is_seen e scene.children t.flow)) is where
+chosen_fits limits scene kept e t acts below is =
+    by_pick (pick limits scene (sight e scene.children t.flow)) (pick_fits limits scene (sight e scene.children t.flow) (is_seen e scene.children t.flow)) is where
       by_pick : (o : Option (List Act)) → AreFit (sight e scene.children t.flow) o → option_map (allowed (room limits kept t)) o ≡ Some acts → CanMakeAll e acts t
       by_pick None h k = cc
       by_pick (Some wish) h k =
@@ -447,22 +441,21 @@ pub record_made_all : (e : ℕ) (acts : List Act) (t : Turn) → IsMoment e → 
 record_made_all e [] t moment h k = h
 record_made_all e (act ∷ rest) t moment h k = record_made_all e rest (make e act t) moment (record_made e act t moment h k.0) k.1
 
-after_kept : (limits : Limits) (scene : Scene) (kept e n : ℕ) (t : Turn) → AllBelow t.next_flow scene.children → LoopsFit t.flow.def.nodes → IsMoment e → IsRecord t.flow
+after_kept : (limits : Limits) (scene : Scene) (kept e n : ℕ) (t : Turn) → AllBelow t.next_flow scene.children → IsMoment e → IsRecord t.flow
     → IsRecord (after limits scene kept e n t).flow
 unfolding rule
-after_kept limits scene kept e zero t below fit moment h = h
-after_kept limits scene kept e (suc n) t below fit moment h =
-    by_choice (choose limits scene kept e t) refl (λ u b f k. after_kept limits scene kept e n u b f moment k) where
+after_kept limits scene kept e zero t below moment h = h
+after_kept limits scene kept e (suc n) t below moment h =
+    by_choice (choose limits scene kept e t) refl (λ u b k. after_kept limits scene kept e n u b moment k) where
       by_choice : (o : Option (List Act)) → choose limits scene kept e t ≡ o
-          → ((u : Turn) → AllBelow u.next_flow scene.children → LoopsFit u.flow.def.nodes → IsRecord u.flow → IsRecord (after limits scene kept e n u).flow)
+          → ((u : Turn) → AllBelow u.next_flow scene.children → IsRecord u.flow → IsRecord (after limits scene kept e n u).flow)
           → IsRecord (option_map_or (λ next. after limits scene kept e n next) (option_map (λ acts. made e acts t) o) t).flow
       by_choice None is on = h
       by_choice (Some acts) is on =
           on (made e acts t) (below_mono t.next_flow (made e acts t).next_flow scene.children (let k = made_flows e acts t in omega (arith, k)) below)
-          (subst (λ (d : FlowDef). LoopsFit d.nodes) (sym (made_def e acts t)) fit)
-          (record_made_all e acts t moment h (chosen_fits limits scene kept e t acts below fit is))
+          (record_made_all e acts t moment h (chosen_fits limits scene kept e t acts below is))
 
-pub decided_kept : (limits : Limits) (scene : Scene) (kept e : ℕ) (t : Turn) → AllBelow t.next_flow scene.children → LoopsFit t.flow.def.nodes → IsMoment e → IsRecord t.flow
+pub decided_kept : (limits : Limits) (scene : Scene) (kept e : ℕ) (t : Turn) → AllBelow t.next_flow scene.children → IsMoment e → IsRecord t.flow
     → IsRecord (decide limits scene kept e t).flow
 unfolding decide
-decided_kept limits scene kept e t below fit moment h = after_kept limits scene kept e (rules_at_most limits t) t below fit moment h
+decided_kept limits scene kept e t below moment h = after_kept limits scene kept e (rules_at_most limits t) t below moment h

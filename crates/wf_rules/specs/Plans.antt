@@ -10,8 +10,7 @@ use Rattle.wf_rules.specs.declared.acting.Child.TheVariants.{Nothing}
 use Rattle.wf_machine.specs.declared.definition.Node.{Node}
 use Rattle.wf_machine.specs.declared.definition.NodeKind.{NodeKind, Simple, SubFlow}
 use Rattle.wf_machine.specs.Marks.{node_at}
-use Rattle.wf_machine.specs.Rules.{task_def_named}
-use Rattle.wf_machine.specs.Calls.{flow_def_for}
+use Rattle.wf_machine.specs.Registered.{task_def_named, flow_def_for}
 use Rattle.wf_machine.specs.declared.sight.ChildState.{ChildState}
 use Rattle.wf_machine.specs.declared.timed.Cause.{Cause}
 use Rattle.wf_machine.specs.State.{Flow}

@@ -28,8 +28,7 @@ use Rattle.wf_machine.specs.Text.{same_text}
 use Rattle.wf_rules.specs.Sight.{Sight, Scene}
 use Rattle.wf_time.specs.Durations.{duration}
 use Rattle.wf_machine.specs.Naming.{with_template}
-use Rattle.wf_machine.specs.Rules.{task_def_named}
-use Rattle.wf_machine.specs.Calls.{flow_def_for}
+use Rattle.wf_machine.specs.Registered.{task_def_named, flow_def_for}
 use Rattle.wf_rules.specs.Outputs.{filled_in, is_too_large, entries_of, with_all, choice_output, count_of, loop_output}
 
 -- ---- limits

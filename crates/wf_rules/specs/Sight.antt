@@ -17,6 +17,7 @@ use Rattle.wf_machine.specs.declared.timed.Cause.{Cause}
 use Rattle.wf_machine.specs.declared.timed.Clocked.{Clocked}
 use Rattle.wf_time.specs.Deadlines.{deadlines_of}
 use Rattle.wf_machine.specs.State.{Attempt, Flow, Kept, State, attempt_numbered}
+use Rattle.wf_machine.specs.Flows.{flow_numbered}
 use Rattle.wf_machine.specs.Sight.{Seen, seen, Told}
 
 -- ---- deadlines
@@ -149,15 +150,12 @@ pub record Scene : Type 0 where
   -- the kept flows that have this one as their parent
   pub children : List ChildState
 
-abbrev pub is_flow : FlowNo → Kept → Bool
-is_flow number k = k.flow.number.0 == number.0
-
 abbrev pub is_open_there : TaskNo → Kept → Bool
 is_open_there task k = option_map_or (λ (a : Attempt). task_is_open a.status) (attempt_numbered task k.flow.attempts) false
 
 -- the attempt is there, in that flow, and open
 abbrev pub is_open_in : State → FlowNo × TaskNo → Bool
-is_open_in s parent = option_map_or (is_open_there parent.1) (find (is_flow parent.0) s.flows) false
+is_open_in s parent = option_map_or (is_open_there parent.1) (flow_numbered parent.0 s.flows) false
 
 abbrev pub is_orphan : State → Flow → Bool
 is_orphan s f = option_map_or (λ parent. not (is_open_in s parent)) f.parent false

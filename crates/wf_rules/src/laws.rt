@@ -31,7 +31,7 @@ pub fn decided_once()
 
 /// A decision leaves a flow that can be kept.
 pub fn decided_kept()
-    ensures { (limits : Limits) (scene : Scene) (kept e : ℕ) (t : Turn) → AllBelow t.next_flow scene.children → LoopsFit t.flow.def.nodes →
+    ensures { (limits : Limits) (scene : Scene) (kept e : ℕ) (t : Turn) → AllBelow t.next_flow scene.children →
         IsMoment e → IsRecord t.flow → IsRecord (decide limits scene kept e t).flow }
 {}
 

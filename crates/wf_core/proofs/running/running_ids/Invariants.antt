@@ -1,5 +1,5 @@
 use Rattle.std.proofs.Common.{◌≡◌, ◌++◌, drop, filter, map}
-use Rattle.wf_machine.specs.Calls.{id_of, runs_as}
+use Rattle.wf_steps.specs.Calls.{id_of, runs_as}
 use Rattle.wf_kept.specs.Flows.{all_kept}
 use Rattle.wf_core.proofs.running.running_ids.Given as goal
 

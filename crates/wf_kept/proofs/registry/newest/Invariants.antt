@@ -1,6 +1,6 @@
 use Rattle.std.proofs.Common.{◌≡◌, drop}
 use Rattle.std.specs.Option.{option_copied}
-use Rattle.wf_machine.specs.Calls.{greater_version, newest_flow_def}
+use Rattle.wf_machine.specs.Registered.{greater_version, newest_flow_def}
 use Rattle.wf_kept.proofs.registry.newest.Given as goal
 
 abbrev pub invariant-loop-def : goal.invariant-loop-def

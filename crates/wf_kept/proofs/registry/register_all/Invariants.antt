@@ -1,5 +1,5 @@
 use Rattle.std.proofs.Common.{◌≡◌, ◌≤◌, length, reverse}
-use Rattle.wf_machine.specs.Calls.{with_flow_defs}
+use Rattle.wf_machine.specs.Registered.{with_flow_defs}
 use Rattle.wf_kept.proofs.registry.register_all.Given as goal
 
 -- those that are left stand from the last, and have room

@@ -1,5 +1,5 @@
 use Rattle.std.proofs.Common.{◌≡◌, ◌++◌, take, drop}
-use Rattle.wf_machine.specs.Calls.{with_task_def}
+use Rattle.wf_machine.specs.Registered.{with_task_def}
 use Rattle.wf_kept.proofs.tasks.place.Given as goal
 
 abbrev pub invariant-loop-i : goal.invariant-loop-i

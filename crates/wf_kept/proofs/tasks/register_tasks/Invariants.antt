@@ -1,5 +1,5 @@
 use Rattle.std.proofs.Common.{◌≡◌, ◌≤◌, length, reverse}
-use Rattle.wf_machine.specs.Calls.{with_task_defs}
+use Rattle.wf_machine.specs.Registered.{with_task_defs}
 use Rattle.wf_kept.proofs.tasks.register_tasks.Given as goal
 
 -- those that are left stand from the last, and have room

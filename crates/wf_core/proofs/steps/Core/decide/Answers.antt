@@ -1,29 +1,45 @@
-use Rattle.std.proofs.Common.{◌≡◌, ap, ◌∙◌}
-use Rattle.wf_machine.specs.Plans.{turn_at}
-use Rattle.wf_machine.specs.Rules.{Turn, decide, made}
-use Rattle.wf_machine.specs.Sight.{Scene}
-use Rattle.wf_machine.proofs.PlanLemmas.{plan_decides}
-use Rattle.wf_core.specs.Grown.{IsGrowing}
-use Rattle.wf_core.proofs.GrowLemmas.{growing_made}
+use Rattle.std.proofs.Common.{◌≡◌, ℕ, ap, sym, subst, ◌∙◌}
+use Rattle.wf_wire.specs.declared.limits.Limits.{Limits}
+use Rattle.wf_rules.specs.Acts.{Turn}
+use Rattle.wf_rules.specs.Plans.{AllBelow, plan, turn_at}
+use Rattle.wf_rules.specs.Rules.{decide}
+use Rattle.wf_rules.specs.Sight.{Scene, scene_in}
+use Rattle.wf_rules.proofs.PlanLemmas.{plan_decides}
+use Rattle.wf_turn.specs.Growing.{IsLaterTurn}
+use Rattle.wf_turn.proofs.GrowLemmas.{later_made}
+use Rattle.wf_core.specs.Store.{Store}
+use Rattle.wf_core.proofs.BesideLemmas.{below_more}
 use Rattle.wf_core.proofs.steps.Core.decide.Goals as goal
 
-pub returns-clause-decided : goal.returns-clause-decided
-returns-clause-decided c =
-    let scene : Scene = record { mark = c.self.inside.mark; task_defs = c.as_slice.result.now } in
-    let next = c.next_task-next_task.result in
-    let start : Turn = turn_at c.args.flow.now.flow next in
-    let run : turn_at c.apply.new.flow.flow c.apply.result ≡ decide c.self.inside.limits scene c.args.moment start =
-    c.apply.ensures.made
-    ∙ ap (λ f. made c.args.moment c.in_ok-plan.plan (turn_at f next)) c.in_ok-reserve.ensures.flow
-    ∙ ap (λ acts. made c.args.moment acts start) c.in_ok-plan.ensures.plan
-    ∙ plan_decides c.self.inside.limits scene c.args.moment start in
-    rw (← c.self.view_is, ← c.as_slice.ensures, ← c.next_task-next_task.ensures.value) run
+pub decide-requires-clause-children : goal.decide-requires-clause-children
+decide-requires-clause-children c =
+    let cs = c.setting-at.result.scene.children in
+    subst (λ (t : Turn). AllBelow t.next_flow cs) (sym c.new-turn.ensures) (below_more c.args.self.now.state.next_flow c.args.next_flow cs c.requires.next c.setting-at.ensures.below)
 
-pub returns-clause-grown : goal.returns-clause-grown
-returns-clause-grown c =
-    let next = c.next_task-next_task.result in
-    let start : Turn = turn_at c.args.flow.now.flow next in
-    let run : IsGrowing c.args.flow.now.flow c.apply.new.flow.flow next c.apply.result =
-    growing_made c.args.moment c.in_ok-plan.plan start (turn_at c.apply.new.flow.flow c.apply.result)
-    (c.apply.ensures.made ∙ ap (λ f. made c.args.moment c.in_ok-plan.plan (turn_at f next)) c.in_ok-reserve.ensures.flow) in
-    rw (← c.self.view_is, ← c.next_task-next_task.ensures.value) run
+-- what the decision is of
+decided : (c : goal.After-next_task-2)
+    → c.decide.new.turn ≡ decide c.args.self.now.limits (scene_in c.args.self.now.state c.args.flow.flow) c.args.kept c.args.moment
+    (turn_at c.args.flow.flow (record { flow = c.args.next_flow; task = c.args.self.now.state.next_task }))
+decided c =
+    let limits = c.args.self.now.limits in
+    let scene = scene_in c.args.self.now.state c.args.flow.flow in
+    let at = c.setting-at.result in
+    let told = c.setting-at.ensures in
+    c.in_ok-decide.ensures
+    ∙ ap (λ (l : Limits). decide l at.scene c.args.kept at.moment c.new-turn.result) told.limits
+    ∙ ap (λ (x : Scene). decide limits x c.args.kept at.moment c.new-turn.result) told.scene
+    ∙ ap (λ (m : ℕ). decide limits scene c.args.kept m c.new-turn.result) told.moment
+    ∙ ap (λ (t : Turn). decide limits scene c.args.kept c.args.moment t) c.new-turn.ensures
+    ∙ ap (λ (n : ℕ). decide limits scene c.args.kept c.args.moment (turn_at c.args.flow.flow (record { flow = c.args.next_flow; task = n })))
+    (c.next_task.ensures.value ∙ ap (λ (s : Store). s.state.next_task) c.self.view_is)
+
+pub returns-clause-turn : goal.returns-clause-turn
+returns-clause-turn c = decided c
+
+pub returns-clause-later : goal.returns-clause-later
+returns-clause-later c =
+    let limits = c.args.self.now.limits in
+    let scene = scene_in c.args.self.now.state c.args.flow.flow in
+    let start = turn_at c.args.flow.flow (record { flow = c.args.next_flow; task = c.args.self.now.state.next_task }) in
+    subst (λ (t : Turn). IsLaterTurn start t) (plan_decides limits scene c.args.kept c.args.moment start ∙ sym (decided c))
+    (later_made c.args.moment (plan limits scene c.args.kept c.args.moment start) start)

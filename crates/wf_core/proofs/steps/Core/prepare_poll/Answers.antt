@@ -1,7 +1,7 @@
 use Rattle.std.proofs.Common.{◌≡◌, ◌+◌, Some, Result, Ok, Err, IfOk, ap, sym, subst, ◌∙◌}
 use Rattle.std.specs.List.{All}
 use Rattle.wf_machine.specs.State.{Flow, attempt_numbered}
-use Rattle.wf_machine.specs.Calls.{Stepped, hand_over, poll}
+use Rattle.wf_steps.specs.Calls.{Stepped, hand_over, poll}
 use Rattle.wf_machine.specs.Queues.{Waiting, next_waiting}
 use Rattle.wf_kept.specs.Flows.{AreAttemptsBelow, flow_number}
 use Rattle.wf_kept.specs.Rising.{RisesTo}

@@ -3,7 +3,8 @@ use Rattle.wf_names.specs.declared.ids.IdKind.TheVariants as kind
 use Rattle.wf_names.specs.TaskStatus.{task_is_open}
 use Rattle.wf_machine.specs.declared.calling.Reply.TheVariants.{Id}
 use Rattle.wf_machine.specs.State.{Flow}
-use Rattle.wf_machine.specs.Calls.{flow_of_task, is_wanted, stepped}
+use Rattle.wf_machine.specs.Flows.{flow_of_task}
+use Rattle.wf_steps.specs.Calls.{is_wanted, stepped}
 use Rattle.wf_machine.specs.Records.{IsMoment, is_kind_at}
 use Rattle.wf_machine.specs.Replies.{IsPrintable}
 use Rattle.wf_machine.specs.Tasks.{takes_update}

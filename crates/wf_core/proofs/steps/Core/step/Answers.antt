@@ -1,5 +1,5 @@
 use Rattle.std.proofs.Common.{◌+◌, ap, ◌∙◌}
-use Rattle.wf_machine.proofs.StepLemmas.{made_step}
+use Rattle.wf_steps.proofs.StepLemmas.{made_step}
 use Rattle.wf_core.specs.Changes.{change_made}
 use Rattle.wf_core.proofs.steps.Core.step.Goals as goal
 

@@ -1,6 +1,8 @@
-use Rattle.std.proofs.Common.{◌≡◌, ◌+◌, arith, ap, length}
-use Rattle.wf_kept.specs.Flows.{FlowTable, new_attempts}
-use Rattle.wf_kept.proofs.FlowLemmas.{known_and_new, set_kept, tied_replaced, with_at, within_kept}
+use Rattle.std.proofs.Common.{◌≡◌, ◌+◌, Some, arith, ap, ◌∙◌, length}
+use Rattle.wf_machine.specs.Flows.{flow_numbered}
+use Rattle.wf_kept.specs.Flows.{FlowTable, all_kept, new_attempts}
+use Rattle.wf_kept.proofs.RevisedLemmas.{tied_changed}
+use Rattle.wf_kept.proofs.FlowLemmas.{known_and_new, tied_replaced, within_kept}
 use Rattle.wf_kept.proofs.flows.KeptFlows.replace.Goals as goal
 
 pub attempts_at-known-requires : goal.attempts_at-known-requires
@@ -21,28 +23,22 @@ pub add_rows-requires-clause-room : goal.add_rows-requires-clause-room
 add_rows-requires-clause-room c =
     rw c.attempts.ensures.value (omega (arith, counted c, c.requires.room, ap (λ (t : FlowTable). t.spare_tasks) c.self.view_is))
 
-pub set-requires : goal.set-requires
-set-requires c = within_kept _ _ _ (rw (c.number.ensures, c.as_slice.ensures) at c.in-Some.ensures.some)
+pub put-requires-clause-rises : goal.put-requires-clause-rises
+put-requires-clause-rises c = (_, c.self.invariant.flows_rise)
+
+pub put-requires-clause-there : goal.put-requires-clause-there
+put-requires-clause-there c = rw (c.number.ensures, c.as_slice.ensures) at c.in-Some.ensures.some
 
 pub invariant_of-self : goal.invariant_of-self
 invariant_of-self c =
     let there = rw (c.number.ensures, c.as_slice.ensures) at c.in-Some.ensures.some in
     let read = rw c.as_slice-in-Some.ensures at c.attempts_at-known.ensures in
-    rw (
-      c.set.ensures.items,
-      c.add_rows.ensures.items,
-      c.attempts.ensures.value,
-      c.number-in-Some.ensures,
-      set_kept,
-      with_at (record { flow = c.args.flow.flow; revision = c.args.revision }) 1 _ _ _ c.self.invariant.flows_rise there,
-    )
-    (tied_replaced _ _ _ _ c.self.invariant _ (ap (λ (t : FlowTable). t.kept) c.self.view_is) (ap (λ (t : FlowTable). t.next_task) c.self.view_is)
-    c.args.flow.flow c.args.next_task c.requires.grown _ there _ read c.args.revision c.requires.limit)
-
-pub returns-in-Some-clause-kept : goal.returns-in-Some-clause-kept
-returns-in-Some-clause-kept c =
-    let there = rw (c.number.ensures, c.as_slice.ensures) at c.in-Some.ensures.some in
-    rw (c.set.ensures.items, set_kept, ← c.self.view_is) (with_at _ 1 _ _ _ c.self.invariant.flows_rise there)
+    let tied = tied_replaced _ _ _ _ c.self.invariant _ (ap (λ (t : FlowTable). t.kept) c.self.view_is) (ap (λ (t : FlowTable). t.next_task) c.self.view_is)
+    c.args.flow.flow c.args.next_task c.requires.grown _ there _ read c.args.revision c.requires.limit in
+    let old = c.requires.grown.old in
+    let found : flow_numbered c.args.flow.flow.number (all_kept c.self.inside.flows.items) ≡ Some old = ap (λ (t : FlowTable). flow_numbered c.args.flow.flow.number t.kept) c.self.view_is ∙ c.requires.grown.found in
+    rw (c.put.ensures.items, c.add_rows.ensures.items, c.attempts.ensures.value, c.number-in-Some.ensures)
+    (tied_changed c.args.revision old c.args.flow.flow (all_kept c.self.inside.flows.items) _ c.self.inside.next_flow c.args.next_task found tied)
 
 pub returns-in-Some-clause-spare_tasks : goal.returns-in-Some-clause-spare_tasks
 returns-in-Some-clause-spare_tasks c =

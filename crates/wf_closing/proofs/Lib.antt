@@ -1,0 +1,5 @@
+pub mod ForkLemmas
+pub mod PlaceLemmas
+pub mod OutputLemmas
+pub mod EndLemmas
+pub mod CountLemmas

@@ -1,0 +1,3 @@
+-- The machine's steps.
+pub mod Calls
+pub mod History

@@ -1,0 +1,3 @@
+pub mod PlaceLemmas
+pub mod ActLemmas
+pub mod GrowLemmas
