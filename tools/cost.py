@@ -6,7 +6,7 @@
 PATH: the program (else crates/conductor/out/conductor, which the gate builds). Each figure is the median of the calls that it
 names, each from its request to the last byte of its reply, the pipe's own time among it:
 
-    long flow      an update in a flow of 500 tasks of which 250 are done
+    long flow      an update in a flow of 500 tasks of which 250 are done, with small outputs and with outputs of 1 KB
     loop           the update that ends the 10th turn, and the 300th, of a DO_WHILE over one task
 """
 
@@ -50,9 +50,10 @@ class Run:
                 length = int(field.split(b":")[1])
         return self.process.stdout.read(length)
 
-    def complete(self, task):
+    def complete(self, task, output=None):
         """Completes the task of that number, and tells the seconds that it took."""
-        body = {"taskId": f"00000001-0200-8000-8000-{task:012x}", "status": "COMPLETED", "outputData": {"n": task}}
+        output = {"n": task} if output is None else output
+        body = {"taskId": f"00000001-0200-8000-8000-{task:012x}", "status": "COMPLETED", "outputData": output}
         return self.ask("POST /api/tasks", body)[1]
 
     def close(self):
@@ -60,7 +61,7 @@ class Run:
         self.process.wait()
 
 
-def long_flow(program):
+def long_flow(program, output=None):
     times = []
     for _ in range(5):
         run = Run(program)
@@ -69,8 +70,8 @@ def long_flow(program):
         run.ask("POST /api/metadata/workflow", {"name": "long", "tasks": tasks})
         run.ask("POST /api/workflow/long", {})
         for task in range(1, 251):
-            run.complete(task)
-        times += [run.complete(task) for task in range(251, 256)]
+            run.complete(task, output)
+        times += [run.complete(task, output) for task in range(251, 256)]
         run.close()
     return statistics.median(times)
 
@@ -102,7 +103,9 @@ def main():
         program, words = pathlib.Path(words[1]), []
     if words:
         sys.exit(__doc__)
-    print(f"long flow: an update with 250 of 500 tasks done {long_flow(program) * 1e6:.0f} us")
+    large = {f"field{n}": {"n": n, "text": "some words of a worker"} for n in range(20)}
+    small, large = long_flow(program), long_flow(program, large)
+    print(f"long flow: an update with 250 of 500 tasks done {small * 1e6:.0f} us, with outputs of 1 KB {large * 1e6:.0f} us")
     tenth, last = loop(program)
     print(f"loop: turn 10 {tenth * 1e6:.0f} us, turn 300 {last * 1e6:.0f} us, {last / tenth:.1f} times")
 

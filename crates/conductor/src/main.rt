@@ -1,22 +1,13 @@
 //! `conductor`: a workflow server. The first word on the command line names what it does.
 #![tactic(auto)]
 
-mod batch;
-mod check;
-mod input;
-mod status;
-#[cfg(test)]
-mod tests;
-mod words;
-
-use batch::batch;
-use check::check;
-use status::Status;
 use std::io::ErrorKind;
 use std::process::ExitCode;
 use std::{env, io};
+use wf_commands::batch::batch;
+use wf_commands::check::check;
+use wf_commands::{GRAMMAR, Status, Word, is_check};
 use wf_wire::{ReadSource, SystemClock, WriteSink};
-use words::{GRAMMAR, Word, is_check};
 
 fn main(rt: HostRuntime) -> ExitCode {
     let status = run(&rt);

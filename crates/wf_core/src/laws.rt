@@ -1,4 +1,4 @@
-//! Laws of every history. The functions do nothing: their contracts are the laws.
+//! Laws of every history: what clients see over time. The functions do nothing: their contracts are the laws.
 
 ghost use Rattle.std.specs.Prelude.{◌≡◌, ◌+◌, ℕ, false, true, Option, Some};
 ghost use Rattle.wf_names.specs.declared.ids.FlowNo.{FlowNo};
@@ -13,6 +13,8 @@ ghost use Rattle.wf_machine.specs.declared.calling.Call.{Call};
 ghost use Rattle.wf_machine.specs.declared.calling.Entry.{Entry};
 ghost use Rattle.wf_machine.specs.declared.calling.Reply.{Reply};
 ghost use Rattle.wf_machine.specs.declared.calling.TaskResult.{TaskResult};
+
+pub use wf_laws::{decided_once, handed_once, sound_stays};
 
 /// An update of an attempt that has ended leaves the state, and is accepted.
 pub fn ended_stays()

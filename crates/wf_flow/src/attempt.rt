@@ -9,6 +9,7 @@ ghost use Rattle.wf_flow.specs.Changes.{closed, forgiven, or_kept, poll_noted, t
 
 use crate::empty::{empty_table, empty_text};
 use crate::no_memory::NoMemory;
+use crate::shared::SharedDoc;
 use std::alloc::Global;
 use std::marker::Model;
 use wf_doc::{Doc, Text};
@@ -22,8 +23,8 @@ pub struct Attempt {
     node: u32,
     iteration: u32,
     status: TaskStatus,
-    input: Doc,
-    output: Doc,
+    input: SharedDoc,
+    output: SharedDoc,
     reason: Text,
     retry: u32,
     retried: Option<TaskNo>,
@@ -83,8 +84,8 @@ impl Attempt {
             node,
             iteration,
             status,
-            input,
-            output: empty_table(alloc),
+            input: SharedDoc::own(input),
+            output: SharedDoc::own(empty_table(alloc)),
             reason: empty_text(alloc),
             retry: 0,
             retried: None,
@@ -107,7 +108,7 @@ impl Attempt {
         }
     }
 
-    /// An equal attempt.
+    /// An equal attempt, which shares its documents with this one.
     pub fn copy(&self, alloc: Global) -> Result<Attempt, NoMemory>
         ensures { IfOk result (λ attempt. attempt ≡ self.now) }
     {
@@ -116,8 +117,8 @@ impl Attempt {
             node: self.node,
             iteration: self.iteration,
             status: self.status,
-            input: wf_doc::copy(alloc, &self.input)?,
-            output: wf_doc::copy(alloc, &self.output)?,
+            input: self.input.share(alloc)?,
+            output: self.output.share(alloc)?,
             reason: self.reason.copy(alloc)?,
             retry: self.retry,
             retried: self.retried,
@@ -169,13 +170,13 @@ impl Attempt {
     pub fn input(&self) -> &Doc
         ensures { result.now ≡ self.now.input }
     {
-        &self.input
+        self.input.as_doc()
     }
 
     pub fn output(&self) -> &Doc
         ensures { result.now ≡ self.now.output }
     {
-        &self.output
+        self.output.as_doc()
     }
 
     /// Why it failed or ended; empty where nothing was said.
@@ -318,7 +319,7 @@ impl Attempt {
     pub fn set_output(&mut self, value: Doc)
         ensures { self.new ≡ record self.old { output = value } }
     {
-        self.output = value;
+        self.output = SharedDoc::own(value);
     }
 
     pub fn set_reason(&mut self, value: Text)
@@ -489,7 +490,7 @@ impl Attempt {
         requires { IsMoment moment }
         ensures { self.new ≡ result_noted moment outcome self.old }
     {
-        self.output = outcome.output;
+        self.output = SharedDoc::own(outcome.output);
         self.reason = outcome.reason;
         self.callback = outcome.callback;
         self.updated = moment;
@@ -546,7 +547,7 @@ impl Attempt {
         ensures { self.new ≡ record self.old { output = or_kept self.old.output output } }
     {
         if let Some(output) = output {
-            self.output = output;
+            self.output = SharedDoc::own(output);
         }
     }
 
@@ -580,7 +581,7 @@ impl Attempt {
     }
 
     /// Puts its loop into that turn.
-    pub(crate) fn turn_on(&mut self, output: Doc, turn: u32, moment: u64)
+    pub(crate) fn turn_on(&mut self, output: SharedDoc, turn: u32, moment: u64)
         requires { IsMoment moment }
         ensures { self.new ≡ turned moment output turn self.old }
     {

@@ -10,6 +10,7 @@ ghost use Rattle.wf_flow.specs.Room.{IsPlaceOf};
 
 use crate::attempt::Attempt;
 use crate::no_memory::NoMemory;
+use crate::shared::SharedDoc;
 use std::alloc::Global;
 use std::marker::Model;
 use std::mem;
@@ -200,7 +201,7 @@ impl Attempts {
 
     /// Puts the loop of the attempt at that place, where there is one, into that turn.
     #[tactic(auto, using(crate::proofs::SpotLemmas::spot_missing))]
-    pub fn turn_on(&mut self, place: usize, output: Doc, turn: u32, moment: u64)
+    pub fn turn_on(&mut self, place: usize, output: SharedDoc, turn: u32, moment: u64)
         requires { IsMoment moment }
         ensures items { self.new.items ≡ at_place place (turned moment output turn) self.old.items }
         ensures room { self.new.spare ≡ self.old.spare }
@@ -235,7 +236,7 @@ impl Attempts {
     pub fn copy(&self, alloc: Global) -> Result<Attempts, NoMemory>
         ensures { IfOk result (λ attempts. attempts.items ≡ self.now.items) }
     {
-        let mut items = Vec::new(alloc);
+        let mut items = Vec::with_capacity(alloc, self.items.len())?;
         for attempt in &self.items {
             items.push(attempt.copy(alloc)?)?;
         }

@@ -14,6 +14,7 @@ use crate::attempts::Attempts;
 use crate::empty::{empty_table, empty_text};
 use crate::no_memory::NoMemory;
 use crate::nodes::{is_simple_at, takes_update_at};
+use crate::shared::SharedDoc;
 use std::alloc::Global;
 use std::marker::Model;
 use wf_doc::{Doc, Items, Text};
@@ -28,9 +29,9 @@ pub type TaskNos = Items<TaskNo>;
 pub struct Flow {
     number: FlowNo,
     def: FlowDef,
-    input: Doc,
-    variables: Doc,
-    output: Doc,
+    input: SharedDoc,
+    variables: SharedDoc,
+    output: SharedDoc,
     status: FlowStatus,
     reason: Text,
     correlation: Text,
@@ -81,9 +82,9 @@ impl Flow {
         Flow {
             number,
             def,
-            input,
-            variables: empty_table(alloc),
-            output: empty_table(alloc),
+            input: SharedDoc::own(input),
+            variables: SharedDoc::own(empty_table(alloc)),
+            output: SharedDoc::own(empty_table(alloc)),
             status: FlowStatus::Running,
             reason: empty_text(alloc),
             correlation,
@@ -97,16 +98,16 @@ impl Flow {
         }
     }
 
-    /// An equal flow, with room of its own.
+    /// An equal flow, with room of its own. Documents are shared with this one.
     pub fn copy(&self, alloc: Global) -> Result<Flow, NoMemory>
         ensures { IfOk result (λ copy. copy.flow ≡ self.now.flow) }
     {
         Ok(Flow {
             number: self.number,
             def: self.def.copy(alloc)?,
-            input: wf_doc::copy(alloc, &self.input)?,
-            variables: wf_doc::copy(alloc, &self.variables)?,
-            output: wf_doc::copy(alloc, &self.output)?,
+            input: self.input.share(alloc)?,
+            variables: self.variables.share(alloc)?,
+            output: self.output.share(alloc)?,
             status: self.status,
             reason: self.reason.copy(alloc)?,
             correlation: self.correlation.copy(alloc)?,
@@ -136,19 +137,19 @@ impl Flow {
     pub fn input(&self) -> &Doc
         ensures { result.now ≡ self.now.flow.input }
     {
-        &self.input
+        self.input.as_doc()
     }
 
     pub fn variables(&self) -> &Doc
         ensures { result.now ≡ self.now.flow.variables }
     {
-        &self.variables
+        self.variables.as_doc()
     }
 
     pub fn output(&self) -> &Doc
         ensures { result.now ≡ self.now.flow.output }
     {
-        &self.output
+        self.output.as_doc()
     }
 
     pub fn status(&self) -> FlowStatus
@@ -330,7 +331,7 @@ impl Flow {
         ensures room { self.old.spare ≤ self.new.spare }
     {
         self.attempts.clear();
-        self.variables = empty_table(alloc);
+        self.variables = SharedDoc::own(empty_table(alloc));
     }
 
     /// Lets it run anew from the moment, without a reason, an end and an output.
@@ -344,7 +345,7 @@ impl Flow {
         self.reason = empty_text(alloc);
         self.started = moment;
         self.ended = None;
-        self.output = empty_table(alloc);
+        self.output = SharedDoc::own(empty_table(alloc));
         self.noted = false;
     }
 
@@ -475,7 +476,7 @@ impl Flow {
     }
 
     /// Puts the loop of the attempt at that place into that turn. It takes no memory.
-    pub fn turn_at(&mut self, place: u64, output: Doc, turn: u32, moment: u64)
+    pub fn turn_at(&mut self, place: u64, output: SharedDoc, turn: u32, moment: u64)
         requires turn { 0 < turn }
         requires moment { IsMoment moment }
         ensures flow { self.new.flow ≡ record self.old.flow { attempts = at_place place (turned moment output turn) self.old.flow.attempts } }
@@ -488,21 +489,21 @@ impl Flow {
         ensures flow { self.new.flow ≡ record self.old.flow { input = value } }
         ensures room { self.new.spare ≡ self.old.spare }
     {
-        self.input = value;
+        self.input = SharedDoc::own(value);
     }
 
     pub fn set_variables(&mut self, value: Doc)
         ensures flow { self.new.flow ≡ record self.old.flow { variables = value } }
         ensures room { self.new.spare ≡ self.old.spare }
     {
-        self.variables = value;
+        self.variables = SharedDoc::own(value);
     }
 
     pub fn set_output(&mut self, value: Doc)
         ensures flow { self.new.flow ≡ record self.old.flow { output = value } }
         ensures room { self.new.spare ≡ self.old.spare }
     {
-        self.output = value;
+        self.output = SharedDoc::own(value);
     }
 
     pub fn set_reason(&mut self, value: Text)

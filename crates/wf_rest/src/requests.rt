@@ -18,7 +18,7 @@ use wf_wire::{FieldLook, Limits, Message};
 /// The call that a request is in the store with that mark, or the first reason why it is none.
 ///
 /// The reasons are tried in this order: ContentEncoding, NoRoute, BadMethod, NotBuilt of a route, BadPath, BadQuery, the
-/// faults of the body's document, BadBody, NotBuilt of an update, BadDefinition, NotBuilt of a definition. A text that isn't
+/// faults of the body's document, BadBody, BadDefinition. A text that isn't
 /// an id of this store and of the kind that its place asks for names the number 0. NoMemory means that memory was wanting
 /// while the request was read.
 #[tactic(auto, using(crate::proofs::CallLemmas::call_is_proper))]

@@ -1,0 +1,4 @@
+-- Lemmas of the laws.
+pub mod SoundLemmas
+pub mod HandLemmas
+pub mod SettledLemmas

@@ -1,0 +1,5 @@
+use Rattle.wf_laws.proofs.HandLemmas.{step_sound}
+use Rattle.wf_laws.proofs.sound_stays.Goals as goal
+
+pub returns-clause-later : goal.returns-clause-later
+returns-clause-later c = step_sound

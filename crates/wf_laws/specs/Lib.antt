@@ -1,0 +1,3 @@
+-- Laws of histories.
+pub mod Sound
+pub mod HandOuts

@@ -1,0 +1,30 @@
+-- What every state of a history keeps, where the first one does: no number is given twice, and no flow is nested in itself.
+use Rattle.std.specs.Prelude.{ℕ, ◌+◌, ◌<◌, ◌≤◌, if◌then◌else◌, All, List, [], ◌∷◌}
+use Rattle.wf_names.specs.declared.ids.TaskNo.{TaskNo}
+use Rattle.wf_machine.specs.Records.{Held}
+use Rattle.wf_machine.specs.State.{Attempt, Kept, State, RisingTo, is_numbered}
+
+-- how many attempts have that number
+abbrev pub tally_in : TaskNo → List Attempt → ℕ
+tally_in task [] = 0
+tally_in task (a ∷ rest) = (if is_numbered task a then 1 else 0) + tally_in task rest
+
+abbrev pub tally : TaskNo → List Kept → ℕ
+tally task [] = 0
+tally task (k ∷ ks) = tally_in task k.flow.attempts + tally task ks
+
+-- the flows stand by rising number, from `low` on and below `high`
+abbrev pub FlowsRise : ℕ → ℕ → List Kept → Type 0
+FlowsRise low high [] = low ≤ high
+FlowsRise low high (k ∷ ks) = (low ≤ k.flow.number.0) × FlowsRise (k.flow.number.0 + 1) high ks
+
+-- its attempts stand by rising number, and a flow that it is nested in has a lower number than its own
+pub record IsSoundFlow (next_task : ℕ) (k : Kept) : Type 0 where
+  pub rising : RisingTo 1 next_task k.flow.attempts
+  pub parent : Held (λ p. p.0.0 < k.flow.number.0) k.flow.parent
+
+pub record IsSound (s : State) : Type 0 where
+  pub rise : FlowsRise 1 s.next_flow s.flows
+  pub from_one : 1 ≤ s.next_task
+  pub flows : All (IsSoundFlow s.next_task) s.flows
+  pub once : (task : TaskNo) → tally task s.flows ≤ 1
