@@ -145,9 +145,9 @@ scheduled_counts (x ∷ xs) = (
 )
 
 -- it is an attempt of a kept flow, and SCHEDULED
-record IsWaiting (flows : List Kept) (w : Waiting) : Type 0 where
-  revision : ℕ
-  stands : Stands (record { flow = w.flow; revision = revision }) flows
+pub record IsWaiting (flows : List Kept) (w : Waiting) : Type 0 where
+  pub revision : ℕ
+  pub stands : Stands (record { flow = w.flow; revision = revision }) flows
   waits : 0 < count false w.attempt.number w.flow.attempts
 
 abbrev IsCounted : Flow → Waiting → Type 0
@@ -193,7 +193,7 @@ first_held P (w ∷ ws) each = by_rest (first_waiting ws) (first_held P ws each.
   by_rest None h = each.0
   by_rest (Some v) h = by_order v (comes_before v w) h
 
-next_waits : (name : List ℕ) (e : ℕ) (flows : List Kept) → Held (IsWaiting flows) (next_waiting name e flows)
+pub next_waits : (name : List ℕ) (e : ℕ) (flows : List Kept) → Held (IsWaiting flows) (next_waiting name e flows)
 next_waits name e flows = first_held (IsWaiting flows) (all_waiting name e flows) (all_wait name e flows)
 
 counted_in : (all : Bool) (task : TaskNo) (k : Kept) (ks : List Kept) → Stands k ks → count all task k.flow.attempts ≤ count_all all task ks

@@ -2,3 +2,6 @@
 pub mod SoundLemmas
 pub mod HandLemmas
 pub mod SettledLemmas
+pub mod LoopLemmas
+pub mod HistoryLemmas
+pub mod ValidLemmas

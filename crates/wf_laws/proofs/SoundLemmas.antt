@@ -243,7 +243,7 @@ abbrev pub Stands : Kept → List Kept → Type 0
 Stands k [] = ⊥
 Stands k (x ∷ xs) = (x ≡ k) ⊎ Stands k xs
 
-all_stands : (P : Kept → Type 0) (k : Kept) (ks : List Kept) → All P ks → Stands k ks → P k
+pub all_stands : (P : Kept → Type 0) (k : Kept) (ks : List Kept) → All P ks → Stands k ks → P k
 all_stands P k [] each there = absurd there
 all_stands P k (x ∷ xs) each (inl same) = subst P same (All-head P x xs each)
 all_stands P k (x ∷ xs) each (inr there) = all_stands P k xs (All-tail P x xs each) there

@@ -2,7 +2,11 @@
 use Rattle.std.specs.Prelude.{ℕ, ◌+◌, ◌<◌, ◌≤◌, if◌then◌else◌, All, List, [], ◌∷◌}
 use Rattle.wf_names.specs.declared.ids.TaskNo.{TaskNo}
 use Rattle.wf_machine.specs.Records.{Held}
+use Rattle.wf_machine.specs.declared.calling.Call.{Call}
+use Rattle.wf_machine.specs.declared.calling.Call.TheVariants.{AddFlowDef, PutFlowDefs}
+use Rattle.wf_machine.specs.declared.definition.FlowDef.{FlowDef}
 use Rattle.wf_machine.specs.State.{Attempt, Kept, State, RisingTo, is_numbered}
+use Rattle.wf_rules.specs.Loops.{LoopsFit}
 
 -- how many attempts have that number
 abbrev pub tally_in : TaskNo → List Attempt → ℕ
@@ -28,3 +32,16 @@ pub record IsSound (s : State) : Type 0 where
   pub from_one : 1 ≤ s.next_task
   pub flows : All (IsSoundFlow s.next_task) s.flows
   pub once : (task : TaskNo) → tally task s.flows ≤ 1
+
+-- ---- loops
+
+-- the loops of all registered workflows fit, and those of all kept flows
+pub record HasFitLoops (s : State) : Type 0 where
+  pub registered : All (λ (d : FlowDef). LoopsFit d.nodes) s.flow_defs
+  pub kept : All (λ (k : Kept). LoopsFit k.flow.def.nodes) s.flows
+
+-- the loops of the workflows that a call registers fit
+abbrev pub BringsFitLoops : Call → Type 0
+BringsFitLoops (AddFlowDef def) = LoopsFit def.nodes
+BringsFitLoops (PutFlowDefs defs) = All (λ (d : FlowDef). LoopsFit d.nodes) defs
+BringsFitLoops call = Unit {0}

@@ -1,0 +1,2 @@
+-- Lemmas of the laws.
+pub mod FitLemmas
