@@ -1,12 +1,16 @@
 -- The workflows that requests register have loops that fit.
 use Rattle.std.proofs.Common.{◌≡◌, ℕ, suc, Bool, true, false, List, [], ◌∷◌, map, Option, Some, None, refl, subst, Result, Ok, Err}
-use Rattle.std.proofs.lemmas.List.Elements.{All-nil, All-cons}
+use Rattle.std.proofs.lemmas.List.Elements.{All-nil, All-cons, All-head, All-tail}
 use Rattle.std.specs.List.{All}
 use Rattle.std.specs.Prelude.{codes, if◌then◌else◌, option_and_then, option_map}
 use Rattle.std.specs.Option.{option_or}
 use Rattle.wf_doc.specs.declared.doc.Doc.{Doc}
 use Rattle.wf_wire.specs.Request.{Request}
 use Rattle.wf_wire.specs.declared.limits.Limits.{Limits}
+use Rattle.wf_machine.specs.State.{new_state}
+use Rattle.wf_machine.specs.declared.calling.Entry.{Entry}
+use Rattle.wf_steps.specs.History.{state_after}
+use Rattle.wf_run_laws.specs.Asking.{IsAsked}
 use Rattle.wf_machine.specs.declared.calling.Call.{Call}
 use Rattle.wf_machine.specs.declared.calling.Call.TheVariants as call
 use Rattle.wf_machine.specs.declared.definition.FlowDef.{FlowDef}
@@ -24,7 +28,8 @@ use Rattle.wf_rest.specs.declared.faulting.HttpFault.{HttpFault}
 use Rattle.wf_rest.specs.Bodies as body
 use Rattle.wf_rest.specs.Bodies.{Asked, then_read}
 use Rattle.wf_rest.specs.Requests as spec
-use Rattle.wf_laws.specs.Sound.{BringsFitLoops}
+use Rattle.wf_laws.specs.Sound.{BringsFitLoops, HasFitLoops}
+use Rattle.wf_laws.proofs.HistoryLemmas.{fit_after}
 use Rattle.wf_laws.proofs.ValidLemmas.{valid_fits}
 
 -- no call, or one that brings fit loops
@@ -128,3 +133,22 @@ asked_brings limits mark m =
 -- the call that a request is
 pub request_brings : (limits : Limits) (mark : ℕ) (m : Request) (c : Call) → spec.request_call limits mark m ≡ Ok c → BringsFitLoops c
 request_brings limits mark m c e = subst Brings e (asked_brings limits mark m)
+
+-- ---- histories
+
+abbrev AsksAt : Limits → ℕ → Entry → Type 0
+AsksAt limits mark x = IsAsked limits mark x.call
+
+abbrev BringsAt : Entry → Type 0
+BringsAt x = BringsFitLoops x.call
+
+all_bring : (limits : Limits) (mark : ℕ) (history : List Entry) → All (AsksAt limits mark) history → All BringsAt history
+all_bring limits mark [] asked = All-nil BringsAt
+all_bring limits mark (x ∷ rest) asked =
+    let first = All-head (AsksAt limits mark) x rest asked in
+    All-cons BringsAt x rest (request_brings limits mark first.request x.call first.is) (all_bring limits mark rest (All-tail (AsksAt limits mark) x rest asked))
+
+pub requests_fit : (limits : Limits) (mark : ℕ) (history : List Entry) → All (λ (x : Entry). IsAsked limits mark x.call) history
+    → HasFitLoops (state_after limits (new_state mark) history)
+requests_fit limits mark history asked =
+    fit_after limits 0 (new_state mark) history (record { registered = All-nil (λ (d : FlowDef). LoopsFit d.nodes); kept = All-nil _ }) (all_bring limits mark history asked)

@@ -1,0 +1,2 @@
+-- What requests ask.
+pub mod Asking
