@@ -60,6 +60,21 @@ fn fields_stand_in_order(rt: HostRuntime) -> Result<(), Fail> {
     assert!(rt; !fields.is_empty());
     assert_eq!(rt; fields.len(), 2);
     assert_eq!(rt; fields.get("b").copied(), Some(3));
-    assert_eq!(rt; fields.at(0).map(|entry| entry.value), Some(2));
+    assert_eq!(rt; fields.at(0).map(|entry| *entry.value()), Some(2));
+    Ok(())
+}
+
+#[test]
+fn a_copy_that_shares_its_entries_is_changed_alone(rt: HostRuntime) -> Result<(), Fail> {
+    let alloc = rt.alloc();
+    let mut fields = Fields::new(alloc);
+    fields.set(Text::new(alloc, "a")?, 1)?;
+    let mut copy = fields.share(alloc)?;
+    copy.set(Text::new(alloc, "a")?, 2)?;
+    copy.set(Text::new(alloc, "b")?, 3)?;
+    assert_eq!(rt; fields.len(), 1);
+    assert_eq!(rt; fields.get("a").copied(), Some(1));
+    assert_eq!(rt; copy.get("a").copied(), Some(2));
+    assert!(rt; copy.at(1).is_some_and(|entry| entry.key().is("b")));
     Ok(())
 }

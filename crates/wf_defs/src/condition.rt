@@ -10,7 +10,7 @@ ghost use Rattle.std.specs.Str.Parse.{digits_value};
 ghost use Rattle.wf_doc.specs.Fields.{keys};
 ghost use Rattle.wf_defs.specs.Condition as spec;
 
-use wf_doc::{Doc, Entry};
+use wf_doc::{Doc, SharedEntry};
 
 // ---- words
 
@@ -390,7 +390,7 @@ fn is_key(bracketed: bool, blanks: usize, span: (usize, usize), text: &[u8], key
 
 /// The longest key that fits, the first of several.
 #[tactic(auto, using(crate::proofs::ConditionLemmas::merged_more))]
-fn longest_key<'a>(bracketed: bool, text: &[u8], entries: &'a [Entry<Doc>]) -> Option<&'a str>
+fn longest_key<'a>(bracketed: bool, text: &[u8], entries: &'a [SharedEntry<Doc>]) -> Option<&'a str>
     ensures { option_map (λ key. key.now) result
         ≡ spec.longest (filter (spec.is_key bracketed text.now) (keys entries.now)) }
 {
@@ -398,7 +398,7 @@ fn longest_key<'a>(bracketed: bool, text: &[u8], entries: &'a [Entry<Doc>]) -> O
     let span = closing_span(text);
     let mut found: Option<&str> = None;
     for entry in entries {
-        let key = entry.key.as_str();
+        let key = entry.key().as_str();
         if is_key(bracketed, blanks, span, text, key.as_bytes()) {
             found = longer(found, key);
         }
@@ -419,7 +419,7 @@ fn longer<'a>(found: Option<&'a str>, key: &'a str) -> Option<&'a str>
 /// The parameter that the iteration is compared with, one of these keys, where it is one.
 pub(crate) fn condition_key<'a>(
     reference: &str,
-    entries: &'a [Entry<Doc>],
+    entries: &'a [SharedEntry<Doc>],
     text: &str,
 ) -> Option<&'a str>
     ensures { option_map (λ key. key.now) result
@@ -432,7 +432,7 @@ pub(crate) fn condition_key<'a>(
 }
 
 /// The condition has one of the two forms.
-pub(crate) fn is_condition(reference: &str, entries: &[Entry<Doc>], text: &str) -> bool
+pub(crate) fn is_condition(reference: &str, entries: &[SharedEntry<Doc>], text: &str) -> bool
     ensures { result ≡ spec.is_condition reference.now (keys entries.now) text.now }
 {
     condition_number(reference, text).is_some() || condition_key(reference, entries, text).is_some()

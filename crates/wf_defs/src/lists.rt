@@ -6,7 +6,7 @@ ghost use Rattle.wf_defs.specs.Lists as spec;
 
 use crate::nodes::{body, branches, cases, field_place, is_type, item_place};
 use std::alloc::Global;
-use wf_doc::{Doc, Entry, NoMemory, Text};
+use wf_doc::{Doc, NoMemory, SharedEntry, Text};
 use wf_fields::{items_in, items_of};
 
 /// Which part of what stands at a place is the list.
@@ -48,14 +48,14 @@ pub(crate) fn place_of(alloc: Global, base: &str, part: &Part<'_>) -> Result<Tex
 }
 
 /// The list of a case of the table of the node at that place.
-fn case_list<'a>(entry: &'a Entry<Doc>, base: &'a str, looped: bool) -> NodeList<'a>
+fn case_list<'a>(entry: &'a SharedEntry<Doc>, base: &'a str, looped: bool) -> NodeList<'a>
     ensures { spec.listed_as result
         ≡ nodes.case_list looped (nodes.field_place base.now (codes "decisionCases")) entry.now }
 {
     NodeList {
-        items: items_of(&entry.value),
+        items: items_of(entry.value()),
         base,
-        part: Part::Case(entry.key.as_str()),
+        part: Part::Case(entry.key().as_str()),
         looped,
     }
 }

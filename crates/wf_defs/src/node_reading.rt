@@ -16,7 +16,7 @@ use crate::lists::{NodeList, lists_inside, place_of};
 use crate::node_rules::{broken_node_rule, nested, sub_name, text_of};
 use crate::nodes::{cases, entries_in, is_type, item_place, previous, reference_of, type_of};
 use std::alloc::Global;
-use wf_doc::{Doc, Entry, Items, NoMemory, Text};
+use wf_doc::{Doc, Items, NoMemory, SharedEntry, Text};
 use wf_fields::{as_count, items_in, number_or, table_in, text_in, truth_or};
 use wf_machine::{Branch, Case, Cases, Count, Node, NodeKind};
 
@@ -250,7 +250,7 @@ fn last_of(alloc: Global, lists: Vec<Items<Node>>) -> Items<Node>
 /// The cases by their keys.
 fn cases_of(
     alloc: Global,
-    entries: &[Entry<Doc>],
+    entries: &[SharedEntry<Doc>],
     lists: Vec<Items<Node>>,
 ) -> Result<Items<Case>, NoMemory>
     ensures { IfOk result (λ made. made ≡ spec.cases_of entries.now lists.items) }
@@ -259,7 +259,7 @@ fn cases_of(
     let mut n = 0;
     for nodes in lists {
         if let Some(entry) = entries.get(n) {
-            let key = entry.key.copy(alloc)?;
+            let key = entry.key().copy(alloc)?;
             made.push(Case { key, nodes })?;
             n += 1;
         }

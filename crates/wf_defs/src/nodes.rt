@@ -5,7 +5,7 @@ ghost use Rattle.std.specs.Option.{option_copied};
 ghost use Rattle.wf_defs.specs.Nodes as spec;
 
 use std::alloc::Global;
-use wf_doc::{Doc, Entry, NoMemory, Text};
+use wf_doc::{Doc, NoMemory, SharedEntry, Text};
 use wf_fields::{given, items_in, text_in};
 
 /// The type: a node that names none is SIMPLE, and one whose type is no text has the empty type.
@@ -34,7 +34,7 @@ pub(crate) fn reference_of(node: &Doc) -> &str
 }
 
 /// The entries of the table in the field, none where there is no table.
-pub(crate) fn entries_in<'a>(doc: &'a Doc, key: &str) -> &'a [Entry<Doc>]
+pub(crate) fn entries_in<'a>(doc: &'a Doc, key: &str) -> &'a [SharedEntry<Doc>]
     ensures { result.now ≡ spec.entries_in key.now doc.now }
 {
     match given(doc, key) {
@@ -43,7 +43,7 @@ pub(crate) fn entries_in<'a>(doc: &'a Doc, key: &str) -> &'a [Entry<Doc>]
     }
 }
 
-fn entries_of(doc: &Doc) -> &[Entry<Doc>]
+fn entries_of(doc: &Doc) -> &[SharedEntry<Doc>]
     ensures { result.now ≡ spec.entries_of doc.now }
 {
     match doc.as_table() {
@@ -52,7 +52,7 @@ fn entries_of(doc: &Doc) -> &[Entry<Doc>]
     }
 }
 
-pub(crate) fn cases(node: &Doc) -> &[Entry<Doc>]
+pub(crate) fn cases(node: &Doc) -> &[SharedEntry<Doc>]
     ensures { result.now ≡ spec.cases node.now }
 {
     entries_in(node, "decisionCases")

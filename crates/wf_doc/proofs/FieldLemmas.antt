@@ -1,6 +1,6 @@
 -- The order of keys is kept.
 use Rattle.std.proofs.Common.{◌≡◌, ℕ, List, [], ◌∷◌, ◌∙◌, refl, sym, ap, subst, ◌<◌, ◌+◌, ◌++◌, length, get_or, set, take, drop, add-one}
-use Rattle.std.proofs.lemmas.List.{drop_more, set_split, take_more, take-append-drop, map-append}
+use Rattle.std.proofs.lemmas.List.{drop_more, set_split, take-append-drop, map-append}
 use Rattle.std.specs.Ordering.{nat_cmp, match_ordering, ordering_reverse}
 use Rattle.std.specs.declared.cmp.Ordering.{Ordering}
 use Rattle.std.specs.declared.cmp.Ordering.TheVariants.{Less, Equal, Greater}
@@ -67,9 +67,3 @@ front_in_order R (x ∷ xs) ys a = (all_front _ xs ys a.0, front_in_order R xs y
 pub ordered_take : {T : Type 0} (es : List (Entry T)) (i : ℕ) → IsOrdered es → IsOrdered (take i es)
 ordered_take {T = T} es i a = front_in_order (slice_cmp nat_cmp) (keys (take i es)) (keys (drop i es))
     (subst (IsStrictlySortedBy (slice_cmp nat_cmp)) (ap keys (sym (take-append-drop i es)) ∙ map-append (λ e. e.key) (take i es) (drop i es)) a)
-
--- what was copied so far, and the next entry
-pub ordered_front : {T : Type 0} (es items made : List (Entry T)) (i : ℕ) (e new : Entry T) → IsOrdered es → items ≡ es → made ≡ take i items → i < length items → e ≡ get_or items i e → new ≡ e
-    → IsOrdered (made ++ new ∷ [])
-ordered_front {T = T} es items made i e new a same so_far within is copied =
-    subst (IsOrdered {T = T}) (ap (take (i + 1)) (sym same) ∙ take_more items i e within ∙ ap (λ x. take i items ++ x ∷ []) (sym is ∙ sym copied) ∙ ap (λ xs. xs ++ new ∷ []) (sym so_far)) (ordered_take es (i + 1) a)

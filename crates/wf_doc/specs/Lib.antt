@@ -5,3 +5,4 @@ pub mod Scan
 pub mod Read
 pub mod Path
 pub mod formers
+pub mod Text

@@ -98,14 +98,14 @@ pub fn depth(doc: &Doc) -> u32
         Doc::Table(fields) => {
             let mut most = 0u32;
             for entry in fields.entries() {
-                most = most.max(depth(&entry.value));
+                most = most.max(depth(entry.value()));
             }
             most.saturating_add(1)
         }
     }
 }
 
-/// An equal document.
+/// An equal document, whose tables hold the same entries.
 #[cycle(copy)]
 pub fn copy(alloc: Global, doc: &Doc) -> Result<Doc, NoMemory>
     ensures { IfOk result (λ made. made ≡ doc.now) }
@@ -116,7 +116,7 @@ pub fn copy(alloc: Global, doc: &Doc) -> Result<Doc, NoMemory>
         Doc::Int(n) => Ok(Doc::Int(*n)),
         Doc::Text(text) => Ok(Doc::Text(text.copy(alloc)?)),
         Doc::List(items) => Ok(Doc::List(copy_items(alloc, items)?)),
-        Doc::Table(fields) => Ok(Doc::Table(copy_fields(alloc, fields)?)),
+        Doc::Table(fields) => Ok(Doc::Table(fields.share(alloc)?)),
     }
 }
 
@@ -127,18 +127,6 @@ fn copy_items(alloc: Global, items: &Items<Doc>) -> Result<Items<Doc>, NoMemory>
     let mut made = Items::new(alloc);
     for item in items.as_slice() {
         made.push(copy(alloc, item)?)?;
-    }
-    Ok(made)
-}
-
-#[cycle(copy)]
-fn copy_fields(alloc: Global, fields: &Fields<Doc>) -> Result<Fields<Doc>, NoMemory>
-    ensures { IfOk result (λ made. made ≡ fields.now) }
-{
-    let mut made = Fields::new(alloc);
-    for entry in fields.entries() {
-        let key = entry.key.copy(alloc)?;
-        made.add_last(key, copy(alloc, &entry.value)?)?;
     }
     Ok(made)
 }

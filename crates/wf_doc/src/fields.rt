@@ -9,6 +9,7 @@ use crate::text::Text;
 use std::alloc::Global;
 use std::cmp::Ordering;
 use std::marker::Model;
+use std::sync::Arc;
 
 /// A key and its value.
 #[derive(Drop)]
@@ -17,10 +18,57 @@ pub struct Entry<T> {
     pub value: T,
 }
 
+/// An entry that equal maps hold together, so that a copy of a map copies no entry.
+#[derive(Drop)]
+pub struct SharedEntry<T> {
+    held: Arc<Entry<T>, Global>,
+}
+
+impl<T> Model for SharedEntry<T> {
+    ghost use Rattle.wf_doc.specs.declared.fields.Entry.{Entry};
+
+    ghost Value = { Entry T };
+
+    ghost view = { λ e. e.held.value };
+}
+
+impl<T: Drop> SharedEntry<T> {
+    fn new(alloc: Global, key: Text, value: T) -> Result<SharedEntry<T>, NoMemory>
+        ensures { IfOk result (λ made. made ≡ entry key value) }
+    {
+        Ok(SharedEntry {
+            held: Arc::new(alloc, Entry { key, value })?,
+        })
+    }
+}
+
+impl<T> SharedEntry<T> {
+    /// The same entry for another map.
+    fn share(&self) -> Result<SharedEntry<T>, NoMemory>
+        ensures { IfOk result (λ made. made ≡ self.now) }
+    {
+        Ok(SharedEntry {
+            held: Arc::try_clone(&self.held)?,
+        })
+    }
+
+    pub fn key(&self) -> &Text
+        ensures { result.now ≡ self.now.key }
+    {
+        &self.held.key
+    }
+
+    pub fn value(&self) -> &T
+        ensures { result.now ≡ self.now.value }
+    {
+        &self.held.value
+    }
+}
+
 /// An ordered map from texts, seen as its entries in the order of their keys.
 #[derive(Drop)]
 pub struct Fields<T> {
-    items: Vec<Entry<T>>,
+    items: Vec<SharedEntry<T>>,
 }
 
 impl<T> Model for Fields<T> {
@@ -38,14 +86,14 @@ impl<T> Model for Fields<T> {
 ghost use Rattle.wf_doc.specs.Fields.{get, put, entry, IsOrdered};
 
 /// Where the key stands or belongs, and whether it stands there.
-fn place<T>(items: &[Entry<T>], key: &str) -> (usize, bool)
+fn place<T>(items: &[SharedEntry<T>], key: &str) -> (usize, bool)
     ensures within { result.0 ≤ length items.now }
     ensures inside { IsTrue result.1 → result.0 < length items.now }
     ensures put { (v : T) → put key.now v items.now
         ≡ (if result.1 then slice_set items.now result.0 (entry key.now v) else insert items.now result.0 (entry key.now v)) }
 {
     for (i, item) in items.iter().enumerate() {
-        match key.cmp(item.key.as_str()) {
+        match key.cmp(item.key().as_str()) {
             Ordering::Less => return (i, false),
             Ordering::Equal => return (i, true),
             Ordering::Greater => {}
@@ -76,7 +124,7 @@ impl<T> Fields<T> {
     }
 
     /// The entries, in the order of their keys.
-    pub fn entries(&self) -> &[Entry<T>]
+    pub fn entries(&self) -> &[SharedEntry<T>]
         ensures value { result.now ≡ self.now }
         ensures order { IsOrdered self.now }
     {
@@ -84,7 +132,7 @@ impl<T> Fields<T> {
     }
 
     /// The entry at a place, counted from 0.
-    pub fn at(&self, at: usize) -> Option<&Entry<T>>
+    pub fn at(&self, at: usize) -> Option<&SharedEntry<T>>
         ensures { option_copied result ≡ slice_get self.now at }
     {
         self.items.get(at)
@@ -95,9 +143,9 @@ impl<T> Fields<T> {
         ensures { option_map (λ v. v.now) result ≡ get key.now self.now }
     {
         for item in &self.items {
-            match key.cmp(item.key.as_str()) {
+            match key.cmp(item.key().as_str()) {
                 Ordering::Less => return None,
-                Ordering::Equal => return Some(&item.value),
+                Ordering::Equal => return Some(item.value()),
                 Ordering::Greater => {}
             }
         }
@@ -106,16 +154,28 @@ impl<T> Fields<T> {
 }
 
 impl<T: Drop> Fields<T> {
+    /// An equal map, which holds the same entries.
+    pub fn share(&self, alloc: Global) -> Result<Fields<T>, NoMemory>
+        ensures { IfOk result (λ made. made ≡ self.now) }
+    {
+        let mut items = Vec::with_capacity(alloc, self.items.len())?;
+        for item in &self.items {
+            items.push(item.share()?)?;
+        }
+        Ok(Fields { items })
+    }
+
     /// Puts the value at the key, in the place of one that was there.
     pub fn set(&mut self, key: Text, value: T) -> Result<(), NoMemory>
         ensures ok { OnOk result (self.new ≡ put key value self.old) }
         ensures err { OnErr result (self.new ≡ self.old) }
     {
         let (at, found) = place(&self.items, key.as_str());
+        let entry = SharedEntry::new(*self.items.allocator(), key, value)?;
         if found {
-            self.items[at] = Entry { key, value };
+            self.items[at] = entry;
         } else {
-            self.items.insert(at, Entry { key, value })?;
+            self.items.insert(at, entry)?;
         }
         Ok(())
     }
@@ -126,7 +186,8 @@ impl<T: Drop> Fields<T> {
         ensures ok { OnOk result (self.new ≡ self.old ++ entry key value ∷ []) }
         ensures err { OnErr result (self.new ≡ self.old) }
     {
-        self.items.push(Entry { key, value })?;
+        let entry = SharedEntry::new(*self.items.allocator(), key, value)?;
+        self.items.push(entry)?;
         Ok(())
     }
 }

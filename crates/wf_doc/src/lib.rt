@@ -19,7 +19,7 @@ mod scan;
 mod text;
 
 pub use doc::{Doc, copy, depth};
-pub use fields::{Entry, Fields};
+pub use fields::{Entry, Fields, SharedEntry};
 pub use no_memory::NoMemory;
 pub use path::{Path, Step, at};
 pub use print_size::print_len;

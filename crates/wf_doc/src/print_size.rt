@@ -44,8 +44,8 @@ fn table_len(fields: &Fields<Doc>) -> u64
     // The brace, and each entry with its colon and the comma or the brace that follows it.
     let mut total = 1u64;
     for entry in fields.entries() {
-        let key = quoted_len(entry.key.as_str().as_bytes());
-        let value = print_len(&entry.value);
+        let key = quoted_len(entry.key().as_str().as_bytes());
+        let value = print_len(entry.value());
         total = total
             .saturating_add(key)
             .saturating_add(value)

@@ -29,8 +29,8 @@ fn to_value(alloc: Global, doc: &Doc) -> Result<Value, NoMemory>
         Doc::Table(fields) => {
             let mut made = Map::new(alloc);
             for entry in fields.entries() {
-                let key = String::from_str(alloc, entry.key.as_str())?;
-                let member = to_value(alloc, &entry.value)?;
+                let key = String::from_str(alloc, entry.key().as_str())?;
+                let member = to_value(alloc, entry.value())?;
                 drop(made.insert(key, member)?);
             }
             Ok(Value::Object(made))

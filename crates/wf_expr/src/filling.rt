@@ -102,9 +102,9 @@ fn fill_fields<S: Scope>(
     let inner = enter(room, levels, fields.len())?;
     let mut made = Fields::new(alloc);
     for entry in fields.entries() {
-        room.take_key(entry.key.as_str().as_bytes())?;
-        let key = entry.key.copy(alloc)?;
-        made.add_last(key, fill_part(alloc, &entry.value, scope, room, inner)?)?;
+        room.take_key(entry.key().as_str().as_bytes())?;
+        let key = entry.key().copy(alloc)?;
+        made.add_last(key, fill_part(alloc, entry.value(), scope, room, inner)?)?;
     }
     Ok(made)
 }

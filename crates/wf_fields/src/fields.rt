@@ -6,7 +6,7 @@ ghost use Rattle.std.specs.Option.{option_copied};
 ghost use Rattle.wf_fields.specs.Fields as spec;
 
 use std::alloc::Global;
-use wf_doc::{Doc, Entry, NoMemory};
+use wf_doc::{Doc, NoMemory, SharedEntry};
 
 /// The form of a value.
 #[derive(Clone, Copy, Debug, PartialEq, Eq)]
@@ -138,16 +138,16 @@ fn are_lists(items: &[Doc]) -> bool
     items.iter().all(is_list)
 }
 
-fn are_case_lists(entries: &[Entry<Doc>]) -> bool
+fn are_case_lists(entries: &[SharedEntry<Doc>]) -> bool
     ensures { result ≡ list_all spec.has_case_list entries.now }
 {
     entries.iter().all(has_case_list)
 }
 
-fn has_case_list(entry: &Entry<Doc>) -> bool
+fn has_case_list(entry: &SharedEntry<Doc>) -> bool
     ensures { result ≡ spec.has_case_list entry.now }
 {
-    is_list(&entry.value)
+    is_list(entry.value())
 }
 
 fn is_list_of_texts(value: &Doc) -> bool

@@ -9,7 +9,6 @@ ghost use Rattle.wf_flow.specs.Changes.{closed, forgiven, or_kept, poll_noted, t
 
 use crate::empty::{empty_table, empty_text};
 use crate::no_memory::NoMemory;
-use crate::shared::SharedDoc;
 use std::alloc::Global;
 use std::marker::Model;
 use wf_doc::{Doc, Text};
@@ -23,8 +22,8 @@ pub struct Attempt {
     node: u32,
     iteration: u32,
     status: TaskStatus,
-    input: SharedDoc,
-    output: SharedDoc,
+    input: Doc,
+    output: Doc,
     reason: Text,
     retry: u32,
     retried: Option<TaskNo>,
@@ -84,8 +83,8 @@ impl Attempt {
             node,
             iteration,
             status,
-            input: SharedDoc::own(input),
-            output: SharedDoc::own(empty_table(alloc)),
+            input,
+            output: empty_table(alloc),
             reason: empty_text(alloc),
             retry: 0,
             retried: None,
@@ -108,7 +107,7 @@ impl Attempt {
         }
     }
 
-    /// An equal attempt, which shares its documents with this one.
+    /// An equal attempt.
     pub fn copy(&self, alloc: Global) -> Result<Attempt, NoMemory>
         ensures { IfOk result (λ attempt. attempt ≡ self.now) }
     {
@@ -117,8 +116,8 @@ impl Attempt {
             node: self.node,
             iteration: self.iteration,
             status: self.status,
-            input: self.input.share(alloc)?,
-            output: self.output.share(alloc)?,
+            input: wf_doc::copy(alloc, &self.input)?,
+            output: wf_doc::copy(alloc, &self.output)?,
             reason: self.reason.copy(alloc)?,
             retry: self.retry,
             retried: self.retried,
@@ -170,13 +169,13 @@ impl Attempt {
     pub fn input(&self) -> &Doc
         ensures { result.now ≡ self.now.input }
     {
-        self.input.as_doc()
+        &self.input
     }
 
     pub fn output(&self) -> &Doc
         ensures { result.now ≡ self.now.output }
     {
-        self.output.as_doc()
+        &self.output
     }
 
     /// Why it failed or ended; empty where nothing was said.
@@ -319,7 +318,7 @@ impl Attempt {
     pub fn set_output(&mut self, value: Doc)
         ensures { self.new ≡ record self.old { output = value } }
     {
-        self.output = SharedDoc::own(value);
+        self.output = value;
     }
 
     pub fn set_reason(&mut self, value: Text)
@@ -490,7 +489,7 @@ impl Attempt {
         requires { IsMoment moment }
         ensures { self.new ≡ result_noted moment outcome self.old }
     {
-        self.output = SharedDoc::own(outcome.output);
+        self.output = outcome.output;
         self.reason = outcome.reason;
         self.callback = outcome.callback;
         self.updated = moment;
@@ -547,7 +546,7 @@ impl Attempt {
         ensures { self.new ≡ record self.old { output = or_kept self.old.output output } }
     {
         if let Some(output) = output {
-            self.output = SharedDoc::own(output);
+            self.output = output;
         }
     }
 
@@ -581,7 +580,7 @@ impl Attempt {
     }
 
     /// Puts its loop into that turn.
-    pub(crate) fn turn_on(&mut self, output: SharedDoc, turn: u32, moment: u64)
+    pub(crate) fn turn_on(&mut self, output: Doc, turn: u32, moment: u64)
         requires { IsMoment moment }
         ensures { self.new ≡ turned moment output turn self.old }
     {

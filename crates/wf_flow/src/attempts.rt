@@ -10,7 +10,6 @@ ghost use Rattle.wf_flow.specs.Room.{IsPlaceOf};
 
 use crate::attempt::Attempt;
 use crate::no_memory::NoMemory;
-use crate::shared::SharedDoc;
 use std::alloc::Global;
 use std::marker::Model;
 use std::mem;
@@ -201,7 +200,7 @@ impl Attempts {
 
     /// Puts the loop of the attempt at that place, where there is one, into that turn.
     #[tactic(auto, using(crate::proofs::SpotLemmas::spot_missing))]
-    pub fn turn_on(&mut self, place: usize, output: SharedDoc, turn: u32, moment: u64)
+    pub fn turn_on(&mut self, place: usize, output: Doc, turn: u32, moment: u64)
         requires { IsMoment moment }
         ensures items { self.new.items ≡ at_place place (turned moment output turn) self.old.items }
         ensures room { self.new.spare ≡ self.old.spare }

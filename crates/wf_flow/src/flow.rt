@@ -14,7 +14,6 @@ use crate::attempts::Attempts;
 use crate::empty::{empty_table, empty_text};
 use crate::no_memory::NoMemory;
 use crate::nodes::{is_simple_at, takes_update_at};
-use crate::shared::SharedDoc;
 use std::alloc::Global;
 use std::marker::Model;
 use wf_doc::{Doc, Items, Text};
@@ -29,9 +28,9 @@ pub type TaskNos = Items<TaskNo>;
 pub struct Flow {
     number: FlowNo,
     def: FlowDef,
-    input: SharedDoc,
-    variables: SharedDoc,
-    output: SharedDoc,
+    input: Doc,
+    variables: Doc,
+    output: Doc,
     status: FlowStatus,
     reason: Text,
     correlation: Text,
@@ -82,9 +81,9 @@ impl Flow {
         Flow {
             number,
             def,
-            input: SharedDoc::own(input),
-            variables: SharedDoc::own(empty_table(alloc)),
-            output: SharedDoc::own(empty_table(alloc)),
+            input,
+            variables: empty_table(alloc),
+            output: empty_table(alloc),
             status: FlowStatus::Running,
             reason: empty_text(alloc),
             correlation,
@@ -98,16 +97,16 @@ impl Flow {
         }
     }
 
-    /// An equal flow, with room of its own. Documents are shared with this one.
+    /// An equal flow, with room of its own.
     pub fn copy(&self, alloc: Global) -> Result<Flow, NoMemory>
         ensures { IfOk result (λ copy. copy.flow ≡ self.now.flow) }
     {
         Ok(Flow {
             number: self.number,
             def: self.def.copy(alloc)?,
-            input: self.input.share(alloc)?,
-            variables: self.variables.share(alloc)?,
-            output: self.output.share(alloc)?,
+            input: wf_doc::copy(alloc, &self.input)?,
+            variables: wf_doc::copy(alloc, &self.variables)?,
+            output: wf_doc::copy(alloc, &self.output)?,
             status: self.status,
             reason: self.reason.copy(alloc)?,
             correlation: self.correlation.copy(alloc)?,
@@ -137,19 +136,19 @@ impl Flow {
     pub fn input(&self) -> &Doc
         ensures { result.now ≡ self.now.flow.input }
     {
-        self.input.as_doc()
+        &self.input
     }
 
     pub fn variables(&self) -> &Doc
         ensures { result.now ≡ self.now.flow.variables }
     {
-        self.variables.as_doc()
+        &self.variables
     }
 
     pub fn output(&self) -> &Doc
         ensures { result.now ≡ self.now.flow.output }
     {
-        self.output.as_doc()
+        &self.output
     }
 
     pub fn status(&self) -> FlowStatus
@@ -331,7 +330,7 @@ impl Flow {
         ensures room { self.old.spare ≤ self.new.spare }
     {
         self.attempts.clear();
-        self.variables = SharedDoc::own(empty_table(alloc));
+        self.variables = empty_table(alloc);
     }
 
     /// Lets it run anew from the moment, without a reason, an end and an output.
@@ -345,7 +344,7 @@ impl Flow {
         self.reason = empty_text(alloc);
         self.started = moment;
         self.ended = None;
-        self.output = SharedDoc::own(empty_table(alloc));
+        self.output = empty_table(alloc);
         self.noted = false;
     }
 
@@ -476,7 +475,7 @@ impl Flow {
     }
 
     /// Puts the loop of the attempt at that place into that turn. It takes no memory.
-    pub fn turn_at(&mut self, place: u64, output: SharedDoc, turn: u32, moment: u64)
+    pub fn turn_at(&mut self, place: u64, output: Doc, turn: u32, moment: u64)
         requires turn { 0 < turn }
         requires moment { IsMoment moment }
         ensures flow { self.new.flow ≡ record self.old.flow { attempts = at_place place (turned moment output turn) self.old.flow.attempts } }
@@ -489,21 +488,21 @@ impl Flow {
         ensures flow { self.new.flow ≡ record self.old.flow { input = value } }
         ensures room { self.new.spare ≡ self.old.spare }
     {
-        self.input = SharedDoc::own(value);
+        self.input = value;
     }
 
     pub fn set_variables(&mut self, value: Doc)
         ensures flow { self.new.flow ≡ record self.old.flow { variables = value } }
         ensures room { self.new.spare ≡ self.old.spare }
     {
-        self.variables = SharedDoc::own(value);
+        self.variables = value;
     }
 
     pub fn set_output(&mut self, value: Doc)
         ensures flow { self.new.flow ≡ record self.old.flow { output = value } }
         ensures room { self.new.spare ≡ self.old.spare }
     {
-        self.output = SharedDoc::own(value);
+        self.output = value;
     }
 
     pub fn set_reason(&mut self, value: Text)

@@ -13,7 +13,6 @@ mod lasting;
 mod naming;
 mod no_memory;
 mod nodes;
-mod shared;
 mod turns;
 
 pub use attempt::Attempt;
@@ -21,7 +20,6 @@ pub use flow::{Flow, TaskNos};
 pub use naming::node_named;
 pub use no_memory::NoMemory;
 pub use nodes::{is_looped, is_simple_at, node_at, takes_update_at};
-pub use shared::SharedDoc;
 pub use wf_machine::TaskResult;
 
 /// Flows in an order that the holder gives them.

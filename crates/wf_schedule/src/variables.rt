@@ -8,7 +8,7 @@ ghost use Rattle.wf_setting.specs.Setting.{sight_in};
 use crate::adding::add_after_variables;
 use crate::starts::Start;
 use std::alloc::Global;
-use wf_doc::{Doc, Entry, Fields};
+use wf_doc::{Doc, Fields, SharedEntry};
 use wf_flow::Flow;
 use wf_rules::{Act, Begin, Outcome};
 use wf_setting::{Children, NoMemory, Setting};
@@ -31,7 +31,7 @@ pub fn set_variables<C: Children>(
 }
 
 /// The entries of a table; what isn't one has none.
-fn entries_of(doc: &Doc) -> &[Entry<Doc>]
+fn entries_of(doc: &Doc) -> &[SharedEntry<Doc>]
     ensures { result.now ≡ entries_of doc.now }
 {
     match doc.as_table() {
@@ -41,7 +41,7 @@ fn entries_of(doc: &Doc) -> &[Entry<Doc>]
 }
 
 /// The table with each of the entries in it.
-fn with_all(alloc: Global, entries: &[Entry<Doc>], table: Doc) -> Result<Doc, NoMemory>
+fn with_all(alloc: Global, entries: &[SharedEntry<Doc>], table: Doc) -> Result<Doc, NoMemory>
     ensures { IfOk result (λ made. made ≡ with_all entries.now table) }
 {
     let mut made = table;
@@ -52,11 +52,11 @@ fn with_all(alloc: Global, entries: &[Entry<Doc>], table: Doc) -> Result<Doc, No
 }
 
 /// The table with the entry, in place of one of its key.
-fn with_entry(alloc: Global, entry: &Entry<Doc>, table: Doc) -> Result<Doc, NoMemory>
+fn with_entry(alloc: Global, entry: &SharedEntry<Doc>, table: Doc) -> Result<Doc, NoMemory>
     ensures { IfOk result (λ made. made ≡ with_key entry.now.key entry.now.value table) }
 {
     let mut fields = into_fields(alloc, table);
-    fields.set(entry.key.copy(alloc)?, wf_doc::copy(alloc, &entry.value)?)?;
+    fields.set(entry.key().copy(alloc)?, wf_doc::copy(alloc, entry.value())?)?;
     Ok(Doc::Table(fields))
 }
 

@@ -6,7 +6,7 @@ ghost use Rattle.wf_machine.specs.Naming as spec;
 
 use crate::no_memory::NoMemory;
 use std::alloc::Global;
-use wf_doc::{Doc, Entry, Fields};
+use wf_doc::{Doc, Fields, SharedEntry};
 
 /// The table with the keys of a template that it lacks, unfilled. What isn't a table stays as it is.
 pub fn with_template(alloc: Global, template: &Doc, doc: Doc) -> Result<Doc, NoMemory>
@@ -30,7 +30,7 @@ fn with_keys(alloc: Global, template: &Doc, fields: Fields<Doc>) -> Result<Field
 
 fn with_missing(
     alloc: Global,
-    missing: &[Entry<Doc>],
+    missing: &[SharedEntry<Doc>],
     fields: Fields<Doc>,
 ) -> Result<Fields<Doc>, NoMemory>
     ensures { IfOk result (λ made. made ≡ spec.with_missing missing.now fields) }
@@ -45,16 +45,16 @@ fn with_missing(
 /// The entries with this one, where they lack its key.
 fn with_entry(
     alloc: Global,
-    entry: &Entry<Doc>,
+    entry: &SharedEntry<Doc>,
     fields: Fields<Doc>,
 ) -> Result<Fields<Doc>, NoMemory>
     ensures { IfOk result (λ made. made
         ≡ (if is_some (get entry.now.key fields) then fields else put entry.now.key entry.now.value fields)) }
 {
     let mut made = fields;
-    if made.get(entry.key.as_str()).is_some() {
+    if made.get(entry.key().as_str()).is_some() {
         return Ok(made);
     }
-    made.set(entry.key.copy(alloc)?, wf_doc::copy(alloc, &entry.value)?)?;
+    made.set(entry.key().copy(alloc)?, wf_doc::copy(alloc, entry.value())?)?;
     Ok(made)
 }

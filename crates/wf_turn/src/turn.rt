@@ -17,7 +17,7 @@ use std::alloc::Global;
 use std::marker::Model;
 use std::mem;
 use wf_doc::{Doc, Text};
-use wf_flow::{Attempt, Flow, SharedDoc};
+use wf_flow::{Attempt, Flow};
 use wf_machine::FlowDef;
 use wf_names::{FlowNo, FlowStatus, TaskNo};
 use wf_rules::{Act, Alert, Child, NewAttempt, Outcome};
@@ -137,8 +137,6 @@ impl Turn {
                 Ok(())
             }
             Act::Turn(place, output, turn) => {
-                // A loop's output grows with each turn, so copies share it from the first one on.
-                let output = SharedDoc::new(alloc, output)?;
                 self.turn_on(place, output, turn, moment);
                 Ok(())
             }
@@ -311,7 +309,7 @@ impl Turn {
         self.flow.forgive_at(place, moment);
     }
 
-    fn turn_on(&mut self, place: u64, output: SharedDoc, turn: u32, moment: u64)
+    fn turn_on(&mut self, place: u64, output: Doc, turn: u32, moment: u64)
         requires turn { 0 < turn }
         requires moment { IsMoment moment }
         ensures { self.new ≡ spec.make moment (Act.Turn place output turn) self.old }

@@ -1,4 +1,4 @@
-use Rattle.std.proofs.Common.{arith}
+use Rattle.std.proofs.Common.{arith, ap}
 use Rattle.wf_doc.specs.Doc.{depth as nesting}
 use Rattle.wf_doc.proofs.DocLemmas.{most_more, depth_list_all, depth_table_all}
 use Rattle.wf_doc.proofs.doc.+depth.Goals as goal
@@ -17,6 +17,7 @@ loop-entry-preserved t c = omega (
   arith,
   c.max-most-in-loop-entry.ensures,
   c.depth-in-loop-entry.ensures,
+  ap nesting c.value.ensures,
   c.loop-entry.invariant,
   most_more (λ e. nesting e.value) c.entries-entry-items.result.now c.loop-entry.entry-index c.entry-item.result c.loop-entry-test.true c.entry-item.is,
 )

@@ -1,14 +1,14 @@
 -- `Fields` as a type that may hold the type that holds it, by its values.
 use mathlib.Core.Path.{◌≡◌, refl, sym, ap, subst}
 use mathlib.Core.List.{List, [], ◌∷◌, map}
-use mathlib.Core.Former.{Former, this, const, pair, list, via, children}
+use mathlib.Core.Former.{Former, this, list, via, children}
 use base.Stored.{code_map, gcons, coded_list, coded_ℕ}
 use denote.RattleType.{RattleType}
 use denote.HoleLaws.{Alike}
-use denote.HolePlaces.{Recodes, struct_places, laid, stays}
+use denote.HolePlaces.{Recodes, struct_places, laid}
 use denote.Hole.Carrier.{listed}
 use denote.Hole.Fix.{over}
-use denote.Param.Weighed.{Weighed, w_list, w_via, w_pair, w_const}
+use denote.Param.Weighed.{Weighed, w_list}
 use denote.Model.Placed.{view_places}
 use Rattle.std.specs.Prelude.{ℕ}
 use Rattle.std.specs.Ordering.{nat_cmp}
@@ -20,27 +20,19 @@ use Rattle.std.specs.contracts.alloc.Global as heap
 use Rattle.std.specs.contracts.impls.GlobalAllocator.TheImpl.{ghosts}
 use Rattle.wf_doc.specs.Fields.{keys, IsOrdered}
 use Rattle.wf_doc.specs.declared.fields.Entry.{Entry}
-use Rattle.wf_doc.specs.contracts.fields.Entry as E
-use Rattle.wf_doc.specs.contracts.text.Text as T
+use Rattle.wf_doc.specs.contracts.fields.SharedEntry as SE
+use Rattle.wf_doc.specs.formers.fields.SharedEntry as shared
+use Rattle.wf_doc.specs.formers.fields.SharedEntry.{on_value}
 use Rattle.wf_doc.specs.declared.fields.Fields.TheInside.{Inside}
 use Rattle.wf_doc.specs.declared.fields.Fields.TheView.{view, invariant}
 use Rattle.wf_doc.specs.contracts.fields.Fields as C
 use Rattle.wf_doc.specs.contracts.fields.Fields.TheInside as I
 
-abbrev split : (g : Former {0}) (X : Type 0) → Entry (g.Of X) → List ℕ × g.Of X
-split g X e = (e.key, e.value)
-
-abbrev join : (g : Former {0}) (X : Type 0) → List ℕ × g.Of X → Entry (g.Of X)
-join g X p = record { key = p.0; value = p.1 }
-
-abbrev entry : Former {0} → Former {0}
-entry g = via (pair (const (List ℕ)) g) (λ X. Entry (g.Of X)) (split g) (join g) (λ X e. refl) (λ X p. refl)
-
 abbrev pub the_former : Former {0} → Former {0}
-the_former g = list (entry g)
+the_former g = list (shared.the_former g)
 
 abbrev pub the_weighed : {g : Former {0}} → Weighed g → Weighed (the_former g)
-the_weighed {g = g} w = w_list (w_via (w_pair (w_const (List ℕ)) w) (λ X. Entry (g.Of X)) (split g) (join g) (λ X e. refl) (λ X p. refl))
+the_weighed {g = g} w = w_list (shared.the_weighed w)
 
 pub the_empty : List (Entry ⊥)
 the_empty = []
@@ -53,10 +45,7 @@ the_items_listed X [] = refl
 the_items_listed X (e ∷ es) = ap (λ l. e.value ∷ l) (the_items_listed X es)
 
 abbrev fields : Former {0}
-fields = via (vec.the_former (entry this) Global) Inside (λ X a. a.items) (λ X v. record { items = v }) (λ X a. refl) (λ X v. refl)
-
-abbrev on_value : {X Y : Type 0} → (X → Y) → Entry X → Entry Y
-on_value h e = record { key = e.key; value = h e.value }
+fields = via (vec.the_former (shared.the_former this) Global) Inside (λ X a. a.items) (λ X v. record { items = v }) (λ X a. refl) (λ X v. refl)
 
 same_keys : {X Y : Type 0} (h : X → Y) (es : List (Entry X)) → keys (map (on_value h) es) ≡ keys es
 same_keys h [] = refl
@@ -69,15 +58,12 @@ abbrev Rises : List (List ℕ) → Type 0
 Rises = IsStrictlySortedBy (slice_cmp nat_cmp)
 
 module _ (R S : RattleType) (h : R.Denot → S.Denot) where
-  entry_places : Alike R S h → Alike (E.the_row R) (E.the_row S) (on_value h)
-  entry_places a = struct_places (E.the_type R) (E.the_type S) ((λ k. k), (h, tt)) (on_value h) (λ d. refl) refl (stays T.the_row, (laid _ _ _ a, tt))
-
   pub the_places : Alike R S h → Alike (C.the_row R) (C.the_row S) ((the_former this).map R.Denot S.Denot h)
   the_places a = view_places fields (the_former this) view (λ X Y k u. refl) (λ X u. refl) R.Denot S.Denot h (C.the_row R).coded (C.the_row S).coded
       (invariant R.Denot) (invariant S.Denot) (λ u. IsOrdered-prop u.items.items) (λ u. IsOrdered-prop u.items.items)
       (λ u s. subst Rises (sym (same_keys h u.items.items)) s) (λ u s. subst Rises (same_keys h u.items.items) s)
       (over (I.the_row R)) (over (I.the_row S))
-      (struct_places (I.the_type R) (I.the_type S) (vec.mapped (on_value h), tt) _ (λ d. refl) refl (laid _ _ _ (vec.the_places heap.the_row ghosts (E.the_row R) (E.the_row S) (on_value h) (entry_places a)), tt))
+      (struct_places (I.the_type R) (I.the_type S) (vec.mapped (on_value h), tt) _ (λ d. refl) refl (laid _ _ _ (vec.the_places heap.the_row ghosts (SE.the_row R) (SE.the_row S) (on_value h) (shared.the_places R S h a)), tt))
 
   pub the_codes_placed : Recodes R S h → Recodes (C.the_row R) (C.the_row S) ((the_former this).map R.Denot S.Denot h)
   the_codes_placed e d = sym (code_map (λ x. gcons ((coded_list coded_ℕ).code x.key) (R.coded.code x.value)) (λ x. gcons ((coded_list coded_ℕ).code x.key) (S.coded.code x.value)) (on_value h) (λ x i. gcons ((coded_list coded_ℕ).code x.key) (sym (e x.value) i)) d)

@@ -85,7 +85,7 @@ fill_fields-returns-in_err-take_key-clause-large g t c =
     let xs = c.entries-entry-items.result.now in
     let x = c.entry-item.result in
     let same = c.loop-entry.invariant.items in
-    let key = c.as_bytes.ensures.value ∙ c.as_str.ensures.bytes in
+    let key = c.as_bytes.ensures.value ∙ c.as_str.ensures.bytes ∙ c.key.ensures in
     let size : length (quoted c.as_bytes.result.now) ≡ length (quoted x.key) = ap (λ k. length (quoted k)) key in
     let p = err_from_is_err_and c.from_residual-in_err-take_key.result c.from_residual-in_err-take_key.ensures.1 in
     rw (p.1, p.2)
@@ -101,36 +101,38 @@ fill_fields-returns-in_err-fill_part-clause-large g t c =
     let xs = c.entries-entry-items.result.now in
     let x = c.entry-item.result in
     let same = c.loop-entry.invariant.items in
-    let key = c.as_bytes.ensures.value ∙ c.as_str.ensures.bytes in
+    let key = c.as_bytes.ensures.value ∙ c.as_str.ensures.bytes ∙ c.key.ensures in
     let size : length (quoted c.as_bytes.result.now) ≡ length (quoted x.key) = ap (λ k. length (quoted k)) key in
+    let wide : item_length names c.value.result.now ≡ item_length names x.value = ap (item_length names) c.value.ensures in
     let p = err_from_is_err_and c.from_residual-in_err-fill_part.result c.from_residual-in_err-fill_part.ensures.1 in
     rw (p.1, p.2)
-    (λ large. part_too_large (entry_length names) (entry_depth names) xs c.loop-entry.entry-index x (filled names x.value) (doc.Table (map (filled_entry names) fields)) c.take_key.new.self.bytes c.args.room.now.bytes
+    (λ large. part_too_large (entry_length names) (entry_depth names) xs c.loop-entry.entry-index x (filled names c.value.result.now) (doc.Table (map (filled_entry names) fields)) c.take_key.new.self.bytes c.args.room.now.bytes
     c.in_ok-inner.inner c.args.levels c.loop-entry-test.true c.entry-item.is
     (table_length names fields ∙ ap (λ ys. sum_by (entry_length names) ys + frame (length ys)) (sym same))
     (table_depth names fields ∙ ap (λ ys. suc (largest (map (entry_depth names) ys))) (sym same))
-    (omega arith) refl (omega (arith, c.loop-entry.invariant.left, c.in_ok-take_key.ensures.taken, size)) c.in_ok-inner.ensures.inner (c.in_err-fill_part.ensures.large large))
+    (omega (arith, wide)) (ap (item_depth names) c.value.ensures) (omega (arith, c.loop-entry.invariant.left, c.in_ok-take_key.ensures.taken, size, wide)) c.in_ok-inner.ensures.inner (c.in_err-fill_part.ensures.large large))
 
 pub fill_fields-add_last-requires : goal.fill_fields-add_last-requires
 fill_fields-add_last-requires g t c =
     let names = g.S.Scope.names c.args.scope.now in
     ordered_filled names c.args.fields.now c.entries-entry-items.result.now c.loop-entry.made c.loop-entry.entry-index c.entry-item.result (entry c.in_ok-key.key c.in_ok-fill_part.field-0) c.loop-entry.invariant.rises
-    c.loop-entry.invariant.items c.loop-entry.invariant.made c.loop-entry-test.true c.entry-item.is c.in_ok-key.ensures
+    c.loop-entry.invariant.items c.loop-entry.invariant.made c.loop-entry-test.true c.entry-item.is (c.in_ok-key.ensures ∙ c.key-in-loop-entry.ensures)
 
 pub fill_fields-loop-entry-preserved : goal.fill_fields-loop-entry-preserved
 fill_fields-loop-entry-preserved g t c =
     let names = g.S.Scope.names c.args.scope.now in
     let xs = c.entries-entry-items.result.now in
     let x = c.entry-item.result in
-    let key = c.as_bytes.ensures.value ∙ c.as_str.ensures.bytes in
+    let key = c.as_bytes.ensures.value ∙ c.as_str.ensures.bytes ∙ c.key.ensures in
     let size : length (quoted c.as_bytes.result.now) ≡ length (quoted x.key) = ap (λ k. length (quoted k)) key in
+    let wide : item_length names c.value.result.now ≡ item_length names x.value = ap (item_length names) c.value.ensures in
     record {
       made = made_more (filled_entry names) xs c.loop-entry.entry-index x c.loop-entry.made c.add_last.new.self (entry c.in_ok-key.key c.in_ok-fill_part.field-0) c.loop-entry-test.true c.entry-item.is c.loop-entry.invariant.made
-          (λ i. entry (c.in_ok-key.ensures i) (c.in_ok-fill_part.ensures.made i)) c.in_ok-add_last.ensures.ok;
+          (λ i. entry ((c.in_ok-key.ensures ∙ c.key-in-loop-entry.ensures) i) ((c.in_ok-fill_part.ensures.made ∙ ap (filled names) c.value.ensures) i)) c.in_ok-add_last.ensures.ok;
       items = c.loop-entry.invariant.items;
       rises = c.loop-entry.invariant.rises;
-      left = omega (arith, c.loop-entry.invariant.left, c.in_ok-take_key.ensures.taken, c.in_ok-fill_part.ensures.taken, size, sum_more (entry_length names) xs c.loop-entry.entry-index x c.loop-entry-test.true c.entry-item.is);
-      deep = omega (arith, c.loop-entry.invariant.deep, c.in_ok-fill_part.ensures.levels, most_more (entry_depth names) xs c.loop-entry.entry-index x c.loop-entry-test.true c.entry-item.is);
+      left = omega (arith, c.loop-entry.invariant.left, c.in_ok-take_key.ensures.taken, c.in_ok-fill_part.ensures.taken, size, wide, sum_more (entry_length names) xs c.loop-entry.entry-index x c.loop-entry-test.true c.entry-item.is);
+      deep = omega (arith, c.loop-entry.invariant.deep, c.in_ok-fill_part.ensures.levels, ap (item_depth names) c.value.ensures, most_more (entry_depth names) xs c.loop-entry.entry-index x c.loop-entry-test.true c.entry-item.is);
     }
 
 pub fill_fields-returns-clause-taken : goal.fill_fields-returns-clause-taken

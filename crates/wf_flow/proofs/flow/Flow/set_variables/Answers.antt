@@ -3,4 +3,4 @@ use Rattle.wf_flow.proofs.RecordLemmas.{kept_other}
 use Rattle.wf_flow.proofs.flow.Flow.set_variables.Goals as goal
 
 pub invariant_of-self : goal.invariant_of-self
-invariant_of-self c = rw c.own.ensures (kept_other (flow_shown c.self.inside) c.self.inside.input c.args.value c.self.inside.output c.self.inside.reason c.self.inside.noted c.self.invariant)
+invariant_of-self c = kept_other (flow_shown c.self.inside) c.self.inside.input c.args.value c.self.inside.output c.self.inside.reason c.self.inside.noted c.self.invariant
