@@ -14,7 +14,8 @@ use Rattle.wf_machine.specs.declared.calling.TaskResult.{TaskResult}
 use Rattle.wf_machine.specs.State.{Attempt, Flow, attempt_numbered, canceled, flow_ended, with_attempt}
 use Rattle.wf_machine.specs.Records.{AreRetries, Each, Held, IsMoment, IsDueMoment, IsInRange, IsOver, IsRetry, IsSound, IsRecord, is_kind_at, is_loop, is_scheduled, is_simple, is_skipped, is_sub_flow}
 use Rattle.wf_machine.specs.Tasks.{handed_out, is_result_status, or_moment, result_applied, takes_update}
-use Rattle.wf_flow.specs.Changes.{cleared, reopened, update_answer}
+use Rattle.wf_machine.specs.Operators.{cleared, reopened, superseded}
+use Rattle.wf_flow.specs.Changes.{update_answer}
 use Rattle.wf_flow.specs.Keeping.{IsSoundFlow}
 use Rattle.wf_flow.proofs.KinLemmas.{IsKin, IsSameWork, each_append, each_found, each_map, each_with, found_number, kin_itself, kin_map, kin_with, retries_kin}
 use Rattle.wf_flow.proofs.PlaceLemmas.{rising_with}
@@ -73,7 +74,7 @@ range_if_canceled true e a moment range =
 pub range_canceled : (e : ℕ) (a : Attempt) → IsMoment e → IsInRange a → IsInRange (canceled e a)
 range_canceled e a moment range = range_if_canceled (task_is_open a.status) e a moment range
 
-pub range_superseded : (a : Attempt) → IsInRange a → IsInRange (record a { superseded = true })
+pub range_superseded : (a : Attempt) → IsInRange a → IsInRange (superseded a)
 range_superseded a range =
     record {
       number = range.number;
@@ -150,7 +151,7 @@ sound_if_canceled true def e a is sound =
 pub sound_canceled : (def : FlowDef) (e : ℕ) (a : Attempt) → IsSound def a → IsSound def (canceled e a)
 sound_canceled def e a sound = sound_if_canceled (task_is_open a.status) def e a refl sound
 
-pub sound_superseded : (def : FlowDef) (a : Attempt) → IsSound def a → task_is_open a.status ≡ false → IsSound def (record a { superseded = true })
+pub sound_superseded : (def : FlowDef) (a : Attempt) → IsSound def a → task_is_open a.status ≡ false → IsSound def (superseded a)
 sound_superseded def a sound over =
     record {
       ended = sound.ended;
@@ -347,7 +348,7 @@ keeping_handed def e worker a moment is range sound =
       sound = sound_handed def e worker a sound is;
     }
 
-pub keeping_superseded : (def : FlowDef) (a : Attempt) → task_is_open a.status ≡ false → IsInRange a → IsSound def a → IsKeeping def a (record a { superseded = true })
+pub keeping_superseded : (def : FlowDef) (a : Attempt) → task_is_open a.status ≡ false → IsInRange a → IsSound def a → IsKeeping def a (superseded a)
 keeping_superseded def a over range sound =
     record {
       kin = record { number = refl; node = refl; iteration = refl; retried = refl };

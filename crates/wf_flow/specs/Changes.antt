@@ -3,26 +3,15 @@ use Rattle.std.specs.Prelude.{ℕ, zero, suc, Bool, true, false, ◌&&◌, not, 
 use Rattle.std.specs.List.{filter}
 use Rattle.wf_names.specs.declared.ids.TaskNo.{TaskNo}
 use Rattle.wf_doc.specs.declared.doc.Doc.{Doc}
-use Rattle.wf_names.specs.declared.statuses.FlowStatus.TheVariants.{Running}
 use Rattle.wf_names.specs.declared.statuses.TaskStatus.{TaskStatus}
 use Rattle.wf_names.specs.declared.statuses.TaskStatus.TheVariants.{CompletedWithErrors}
 use Rattle.wf_names.specs.declared.refusals.Refusal.{Refusal}
 use Rattle.wf_names.specs.declared.refusals.Refusal.TheVariants.{NotFound, NotUpdatable}
 use Rattle.wf_names.specs.TaskStatus.{task_is_open, task_is_successful}
 use Rattle.wf_machine.specs.declared.definition.FlowDef.{FlowDef}
-use Rattle.wf_machine.specs.State.{Attempt, Flow, empty_table}
+use Rattle.wf_machine.specs.State.{Attempt}
 use Rattle.wf_machine.specs.Records.{is_kind_at}
 use Rattle.wf_machine.specs.Tasks.{takes_update}
-
--- ---- the whole flow
-
--- a flow without attempts and variables
-abbrev pub cleared : Flow → Flow
-cleared f = record f { attempts = []; variables = empty_table }
-
--- a flow that runs anew from that moment
-abbrev pub reopened : ℕ → Flow → Flow
-reopened e f = record f { status = Running; reason = []; started = e; ended = None; output = empty_table; noted = false }
 
 -- ---- attempts that are open
 

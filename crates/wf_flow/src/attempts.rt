@@ -5,6 +5,7 @@ ghost use Rattle.std.specs.Option.{option_copied};
 ghost use Rattle.wf_machine.specs.State.{RisingFrom, attempt_numbered, canceled};
 ghost use Rattle.wf_machine.specs.Records.{IsMoment};
 ghost use Rattle.wf_machine.specs.Tasks.{handed_out, is_result_status, result_applied};
+ghost use Rattle.wf_machine.specs.Operators.{superseded};
 ghost use Rattle.wf_flow.specs.Changes.{at_place, closed, forgiven, open_numbers, poll_noted, total_noted, turned};
 ghost use Rattle.wf_flow.specs.Room.{IsPlaceOf};
 
@@ -43,6 +44,10 @@ impl Attempts {
         Attempts {
             items: Vec::new(alloc),
         }
+    }
+
+    pub fn allocator(&self) -> Global {
+        *self.items.allocator()
     }
 
     pub fn as_slice(&self) -> &[Attempt]
@@ -134,13 +139,15 @@ impl Attempts {
         }
     }
 
-    /// Marks the attempt at that place as superseded.
+    /// Marks the attempt at that place, where there is one, as superseded.
+    #[tactic(auto, using(crate::proofs::SpotLemmas::spot_missing))]
     pub fn supersede(&mut self, place: usize)
-        requires { place < length self.old.items }
-        ensures items { IfSome (slice_get self.old.items place) (λ a. self.new.items ≡ slice_set self.old.items place (record a { superseded = true })) }
+        ensures items { self.new.items ≡ at_place place superseded self.old.items }
         ensures room { self.new.spare ≡ self.old.spare }
     {
-        self.items[place].set_superseded(true);
+        if place < self.items.len() {
+            self.items[place].set_superseded(true);
+        }
     }
 
     /// Ends the attempt at that place, where there is one, with a new reason and a new output where there are some.

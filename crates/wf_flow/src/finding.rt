@@ -38,7 +38,7 @@ pub fn find_in<'n, T: NodeTest>(nodes: &'n [Node], test: &T) -> Option<&'n Node>
 
 #[cycle(finding)]
 #[tactic(auto, using(crate::proofs::RowLemmas::inside_switch, crate::proofs::RowLemmas::inside_fork, crate::proofs::RowLemmas::inside_loop))]
-fn find_inside<'n, T: NodeTest>(kind: &'n NodeKind, test: &T) -> Option<&'n Node>
+pub fn find_inside<'n, T: NodeTest>(kind: &'n NodeKind, test: &T) -> Option<&'n Node>
     ensures { option_copied result ≡ find (T.passes test.now) (inside_kind kind.now) }
 {
     match kind {

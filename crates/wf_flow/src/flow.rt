@@ -7,7 +7,8 @@ ghost use Rattle.wf_names.specs.TaskStatus.{task_is_open};
 ghost use Rattle.wf_machine.specs.State.{RisingFrom, RisingTo, attempt_numbered, flow_ended, new_flow, with_attempt};
 ghost use Rattle.wf_machine.specs.Records.{Each, Held, IsInRange, IsMoment, IsRecord, is_kind_at, is_scheduled, is_simple};
 ghost use Rattle.wf_machine.specs.Tasks.{handed_out, is_result_status, result_applied};
-ghost use Rattle.wf_flow.specs.Changes.{at_place, attempt_answer, cleared, closed, forgiven, has_failed, open_numbers, poll_noted, reopened, total_noted, turned, update_answer};
+ghost use Rattle.wf_machine.specs.Operators.{cleared, reopened, superseded};
+ghost use Rattle.wf_flow.specs.Changes.{at_place, attempt_answer, closed, forgiven, has_failed, open_numbers, poll_noted, total_noted, turned, update_answer};
 
 use crate::attempt::Attempt;
 use crate::attempts::Attempts;
@@ -312,34 +313,23 @@ impl Flow {
         self.attempts.cancel_open(moment);
     }
 
-    /// Takes an attempt that has ended out of the count: its node is seen as if it weren't there. It takes no memory.
-    pub fn supersede(&mut self, task: TaskNo)
-        requires { IsSomeAnd (attempt_numbered task self.old.flow.attempts) (λ a. task_is_open a.status ≡ false) }
-        ensures flow { IsSomeAnd (attempt_numbered task self.old.flow.attempts)
-            (λ a. self.new.flow ≡ record self.old.flow { attempts = with_attempt (record a { superseded = true }) self.old.flow.attempts }) }
-        ensures room { self.new.spare ≡ self.old.spare }
-    {
-        if let Some(place) = self.attempts.place(task) {
-            self.attempts.supersede(place);
-        }
-    }
-
-    /// Takes all attempts and variables away.
-    pub fn clear(&mut self, alloc: Global)
+    /// Takes all attempts and variables away. It takes no memory.
+    pub fn clear(&mut self)
         ensures flow { self.new.flow ≡ cleared self.old.flow }
         ensures room { self.old.spare ≤ self.new.spare }
     {
         self.attempts.clear();
-        self.variables = empty_table(alloc);
+        self.variables = empty_table(self.attempts.allocator());
     }
 
-    /// Lets it run anew from the moment, without a reason, an end and an output.
-    pub fn reopen(&mut self, alloc: Global, moment: u64)
+    /// Lets it run anew from the moment, without a reason, an end and an output. It takes no memory.
+    pub fn reopen(&mut self, moment: u64)
         requires terminal { flow_is_open self.old.flow.status ≡ false }
         requires moment { IsMoment moment }
         ensures flow { self.new.flow ≡ reopened moment self.old.flow }
         ensures room { self.new.spare ≡ self.old.spare }
     {
+        let alloc = self.attempts.allocator();
         self.status = FlowStatus::Running;
         self.reason = empty_text(alloc);
         self.started = moment;
@@ -482,6 +472,16 @@ impl Flow {
         ensures room { self.new.spare ≡ self.old.spare }
     {
         self.attempts.turn_on(place as usize, output, turn, moment);
+    }
+
+    /// Takes the attempt at that place, which has ended, out of the count: its node is seen as if it weren't there.
+    /// It takes no memory.
+    pub fn supersede_at(&mut self, place: u64)
+        requires { IfSome (slice_get self.old.flow.attempts place) (λ a. task_is_open a.status ≡ false) }
+        ensures flow { self.new.flow ≡ record self.old.flow { attempts = at_place place superseded self.old.flow.attempts } }
+        ensures room { self.new.spare ≡ self.old.spare }
+    {
+        self.attempts.supersede(place as usize);
     }
 
     pub fn set_input(&mut self, value: Doc)

@@ -16,10 +16,11 @@ mod nodes;
 mod turns;
 
 pub use attempt::Attempt;
+pub use finding::{NodeTest, find_in};
 pub use flow::{Flow, TaskNos};
 pub use naming::node_named;
 pub use no_memory::NoMemory;
-pub use nodes::{is_looped, is_simple_at, node_at, takes_update_at};
+pub use nodes::{has_inside, is_looped, is_simple_at, node_at, takes_update_at};
 pub use wf_machine::TaskResult;
 
 /// Flows in an order that the holder gives them.

@@ -46,7 +46,7 @@ fn names_turn_of(nodes: &[Node], text: &str, node: &Node) -> bool
     if !names_turn(node.reference.as_str(), text) {
         return false;
     }
-    is_looped(nodes, node)
+    is_looped(nodes, node.index)
 }
 
 /// The node that the text names an attempt of.
@@ -79,7 +79,7 @@ impl Flow {
                 None => None,
             };
         }
-        if is_looped(self.def().nodes.as_slice(), node) {
+        if is_looped(self.def().nodes.as_slice(), node.index) {
             self.latest_attempt(node.index)
         } else {
             self.last_attempt(node.index, 0)

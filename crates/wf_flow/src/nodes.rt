@@ -1,14 +1,14 @@
 //! The node of an index, at any depth of a definition, and what its kind is.
 
-ghost use Rattle.std.specs.Prelude.{◌≡◌, ◌&&◌};
+ghost use Rattle.std.specs.Prelude.{◌≡◌};
 ghost use Rattle.std.specs.List.{list_any};
 ghost use Rattle.std.specs.Option.{option_copied};
 ghost use Rattle.wf_machine.specs.Records.{is_kind_at, is_loop, is_simple};
 ghost use Rattle.wf_machine.specs.Tasks.{takes_update};
-ghost use Rattle.wf_machine.specs.Marks.{all_nodes, inside_kind, node_at};
-ghost use Rattle.wf_machine.specs.Naming.{has_index, is_looped};
+ghost use Rattle.wf_machine.specs.Marks.{inside_kind, node_at};
+ghost use Rattle.wf_machine.specs.Naming.{has_index, stands_in};
 
-use crate::finding::{NodeTest, find_in};
+use crate::finding::{NodeTest, find_in, find_inside};
 use wf_machine::{FlowDef, Node, NodeKind};
 
 #[derive(Drop)]
@@ -33,16 +33,13 @@ struct LoopAround {
 }
 
 impl NodeTest for LoopAround {
-    ghost use Rattle.std.specs.Prelude.{◌&&◌};
-    ghost use Rattle.std.specs.List.{list_any};
     ghost use Rattle.wf_machine.specs.Records.{is_loop};
-    ghost use Rattle.wf_machine.specs.Marks.{inside_kind};
-    ghost use Rattle.wf_machine.specs.Naming.{has_index};
+    ghost use Rattle.wf_machine.specs.Naming.{is_around};
 
-    ghost passes = { λ test node. is_loop node.kind && list_any (has_index test.index) (inside_kind node.kind) };
+    ghost passes = { λ test node. is_around is_loop test.index node };
 
     fn passes(&self, node: &Node) -> bool {
-        loops_around(&node.kind, self.index)
+        is_loop(&node.kind) && has_inside(&node.kind, self.index)
     }
 }
 
@@ -54,33 +51,33 @@ pub fn node_at(nodes: &[Node], index: u32) -> Option<&Node>
     find_in(nodes, &HasIndex { index })
 }
 
-/// Whether the node stands inside a DO_WHILE, at any depth.
+/// Whether the node of that index stands inside a DO_WHILE, at any depth.
 #[tactic(auto, using(crate::proofs::FindLemmas::any_found, crate::proofs::FindLemmas::none_found))]
-pub fn is_looped(nodes: &[Node], node: &Node) -> bool
-    ensures { result ≡ is_looped nodes.now node.now }
+pub fn is_looped(nodes: &[Node], index: u32) -> bool
+    ensures { result ≡ stands_in is_loop nodes.now index }
 {
-    match find_in(nodes, &LoopAround { index: node.index }) {
+    match find_in(nodes, &LoopAround { index }) {
         Some(_) => true,
         None => false,
     }
 }
 
+/// Whether a node of that kind has the node of that index inside, at any depth.
 #[tactic(auto, using(crate::proofs::FindLemmas::any_found, crate::proofs::FindLemmas::none_found))]
-fn has_index(nodes: &[Node], index: u32) -> bool
-    ensures { result ≡ list_any (has_index index) (all_nodes nodes.now) }
+pub fn has_inside(kind: &NodeKind, index: u32) -> bool
+    ensures { result ≡ list_any (has_index index) (inside_kind kind.now) }
 {
-    match find_in(nodes, &HasIndex { index }) {
+    match find_inside(kind, &HasIndex { index }) {
         Some(_) => true,
         None => false,
     }
 }
 
-/// Whether it is a DO_WHILE that has the node of that index inside.
-fn loops_around(kind: &NodeKind, index: u32) -> bool
-    ensures { result ≡ (is_loop kind.now && list_any (has_index index) (inside_kind kind.now)) }
+fn is_loop(kind: &NodeKind) -> bool
+    ensures { result ≡ is_loop kind.now }
 {
     match kind {
-        NodeKind::Loop(_, body) => has_index(body.as_slice(), index),
+        NodeKind::Loop(_, _) => true,
         NodeKind::Simple => false,
         NodeKind::Switch(_) => false,
         NodeKind::Fork(_) => false,

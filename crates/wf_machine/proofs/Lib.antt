@@ -1,1 +1,4 @@
 pub mod TreeLemmas
+pub mod RecordLemmas
+pub mod OperatorLemmas
+mod OperatorRows

@@ -37,6 +37,7 @@ use Rattle.wf_machine.specs.Marks.{is_of, last_of, next_step, node_at}
 use Rattle.wf_time.specs.Delay.{retry_delay}
 use Rattle.wf_machine.specs.Documents.{reference_text}
 use Rattle.wf_machine.specs.Records.{is_kind_at, is_simple}
+pub use Rattle.wf_machine.specs.Statuses.{is_running}
 use Rattle.wf_rules.specs.Outputs.{filled_in, output_of, child_output, join_output, turned_output, turns_on, with_key}
 use Rattle.wf_rules.specs.Scheduling.{fails, within, adding_one, schedule}
 use Rattle.wf_rules.specs.Acts.{Turn, made}
@@ -260,10 +261,6 @@ first_of (None ∷ rest) = first_of rest
 abbrev pub rules : Limits → Scene → Sight → List (Option (List Act))
 rules limits scene s =
     r0 scene ∷ r1 s ∷ r2 s ∷ r3 limits scene s ∷ r4 limits s ∷ r5 limits scene s ∷ r6 limits scene s ∷ []
-
-abbrev pub is_running : FlowStatus → Bool
-is_running flow.Running = true
-is_running _ = false
 
 -- the first rule that applies to a flow, by what it wants done
 unfoldable pub pick : Limits → Scene → Sight → Option (List Act)

@@ -17,7 +17,7 @@ loop-nodes-preserved-in-Some-get c =
     let within : l.n < length c.args.entries.now = grind (arith, nat_tests, tested) in
     let counted : l.n ≡ length l.yielded = omega (arith, l.invariant.1) in (
       c.in_ok-push.ensures.ok
-          ∙ ap (λ k. l.made ++ case_of k nodes ∷ []) c.in_ok-key.ensures
+          ∙ ap (λ k. l.made ++ case_of k nodes ∷ []) (c.in_ok-key.ensures ∙ c.key.ensures)
           ∙ ap (λ m. m ++ case_of entry.key nodes ∷ []) l.invariant.0
           ∙ sym
           (cases_of_more c.args.entries.now l.yielded nodes entry (omega (arith, within, counted))
