@@ -6,4 +6,10 @@ mod kept;
 #[cfg(test)]
 mod machine;
 #[cfg(test)]
+mod operators;
+#[cfg(test)]
+mod plans;
+#[cfg(test)]
 mod templates;
+#[cfg(test)]
+mod workflows;

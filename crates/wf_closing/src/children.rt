@@ -3,24 +3,24 @@
 ghost use Rattle.std.specs.Prelude.{◌≡◌, IfOk};
 ghost use Rattle.wf_rules.specs.Outputs.{child_output as output_of_child};
 ghost use Rattle.wf_rules.specs.Rules as spec;
-ghost use Rattle.wf_setting.specs.Setting.{child_seen};
 
 use crate::tables::with_key;
 use std::alloc::Global;
 use wf_doc::{Doc, Text};
-use wf_flow::Flow;
 use wf_names::FlowStatus;
 use wf_rules::{Act, Outcome};
-use wf_setting::{Children, NoMemory, Setting, flow_id, is_too_large, one, unless_large};
+use wf_setting::{
+    Children, EndedChild, NoMemory, Setting, flow_id, is_too_large, one, unless_large,
+};
 
 /// The attempt at that place ends as its child did.
 pub fn child_ended<C: Children>(
     alloc: Global,
     at: &Setting<C>,
     place: u64,
-    child: &Flow,
+    child: &EndedChild,
 ) -> Result<Vec<Act>, NoMemory>
-    ensures { IfOk result (λ acts. acts.items ≡ spec.child_ended at.now.limits at.now.scene place (child_seen child.now.flow)) }
+    ensures { IfOk result (λ acts. acts.items ≡ spec.child_ended at.now.limits at.now.scene place child.now) }
 {
     let output = child_output(alloc, at.mark, child)?;
     let large = is_too_large(at.limits, &output);
@@ -34,10 +34,9 @@ pub fn child_ended<C: Children>(
 }
 
 /// The output of the child, with its id.
-fn child_output(alloc: Global, mark: u32, child: &Flow) -> Result<Doc, NoMemory>
-    ensures { IfOk result (λ made. made ≡ output_of_child mark (child_seen child.now.flow)) }
+fn child_output(alloc: Global, mark: u32, child: &EndedChild) -> Result<Doc, NoMemory>
+    ensures { IfOk result (λ made. made ≡ output_of_child mark child.now) }
 {
-    child.is_record();
     let id = flow_id(alloc, mark, child.number())?;
     let output = wf_doc::copy(alloc, child.output())?;
     with_key(alloc, "subWorkflowId", Doc::Text(id), output)

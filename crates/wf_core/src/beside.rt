@@ -11,7 +11,7 @@ use crate::steps::Core;
 use wf_flow::Flow;
 use wf_kept::{KeptFlow, KeptFlows};
 use wf_names::{FlowNo, TaskNo};
-use wf_setting::{Children, Setting};
+use wf_setting::{Children, EndedChild, Setting};
 
 /// The kept flows that have one flow as their parent.
 #[derive(Drop)]
@@ -27,15 +27,24 @@ impl<'s> Children for KeptChildren<'s> {
     ghost all = { λ c. map child_state (filter (is_child_of c.parent) c.flows.now.kept) };
 
     #[tactic(auto, using(crate::proofs::BesideLemmas::not_kept, crate::proofs::BesideLemmas::kept_ended, crate::proofs::BesideLemmas::kept_open))]
-    fn ended(&self, number: FlowNo) -> Option<&Flow> {
+    fn ended(&self, number: FlowNo) -> Option<EndedChild> {
         let _rising = self.flows.as_slice();
         let kept = self.flows.flow(number)?;
         if is_ended_child(self.parent, kept) {
-            Some(&kept.flow)
+            Some(shown(kept))
         } else {
             None
         }
     }
+}
+
+/// What the rules read of it.
+fn shown(child: &KeptFlow) -> EndedChild
+    ensures { result ≡ spec.child_state (kept child.now) }
+{
+    let flow = &child.flow;
+    flow.is_record();
+    EndedChild::new(flow.number(), flow.status(), flow.output(), flow.reason())
 }
 
 /// It has that flow as its parent, and has ended.

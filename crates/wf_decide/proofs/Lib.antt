@@ -1,2 +1,4 @@
 pub mod AllowLemmas
 pub mod DecideLemmas
+pub mod PlannedLemmas
+pub mod ViewLemmas

@@ -113,7 +113,7 @@ fn by_children<C: Children>(
         ≡ spec.first_of (own.from_children at.now.limits at.now.scene (sight_in at.now flow.now.flow))) }
 {
     match ended_child(at, flow) {
-        Some((place, child)) => Ok(Some(child_ended(alloc, at, place, child)?)),
+        Some((place, child)) => Ok(Some(child_ended(alloc, at, place, &child)?)),
         None => by_attempts(alloc, at, flow),
     }
 }

@@ -62,7 +62,7 @@ fn step<C: Children>(
 }
 
 /// What there is room for, where `kept` flows are kept beside those that the turn started.
-fn room(limits: &Limits, kept: u64, turn: &Turn) -> Room
+pub fn room(limits: &Limits, kept: u64, turn: &Turn) -> Room
     ensures room { result ≡ spec.room limits.now kept turn.now }
     ensures tasks { turn.now.next_task ≤ 2 ^ 56 }
     ensures flows { turn.now.next_flow ≤ 2 ^ 56 }
@@ -76,7 +76,7 @@ fn room(limits: &Limits, kept: u64, turn: &Turn) -> Room
 
 /// How many rules can apply at most.
 #[tactic(auto, using(crate::proofs::DecideLemmas::few_attempts))]
-fn rules_at_most(limits: &Limits, flow: &Flow) -> u64
+pub fn rules_at_most(limits: &Limits, flow: &Flow) -> u64
     ensures { result ≡ 6 * max limits.now.attempts (length flow.now.flow.attempts) + 2 }
 {
     flow.attempts_in_range();

@@ -1,7 +1,6 @@
 -- Where and when a flow is decided.
 use Rattle.std.specs.Prelude.{ℕ}
 use Rattle.wf_wire.specs.declared.limits.Limits.{Limits}
-use Rattle.wf_machine.specs.declared.sight.ChildState.{ChildState}
 use Rattle.wf_machine.specs.State.{Flow}
 use Rattle.wf_rules.specs.Sight.{Scene, Sight, sight}
 
@@ -14,7 +13,3 @@ pub record Setting : Type 0 where
 -- what the rules see of a flow there
 abbrev pub sight_in : Setting → Flow → Sight
 sight_in at f = sight at.moment at.scene.children f
-
--- what they see of a child
-abbrev pub child_seen : Flow → ChildState
-child_seen f = record { flow = f.number; status = f.status; output = f.output; reason = f.reason }

@@ -1,6 +1,7 @@
 //! Where and when a flow is decided, and what each rule makes there: filled documents, within the limits, and failures.
 #![tactic(auto)]
 
+mod child;
 mod failing;
 mod filling;
 mod no_memory;
@@ -8,6 +9,7 @@ mod scope;
 mod setting;
 mod templates;
 
+pub use child::EndedChild;
 pub use failing::{fails, fails_too_large, one, two, unless_large};
 pub use filling::{fill_in, has_keys, is_too_large};
 pub use no_memory::NoMemory;

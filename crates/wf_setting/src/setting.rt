@@ -1,24 +1,23 @@
 //! Where and when a flow is decided.
 
+use crate::child::EndedChild;
 use std::marker::Model;
-use wf_flow::Flow;
 use wf_machine::{FlowDef, TaskDef};
 use wf_names::FlowNo;
 use wf_wire::Limits;
 
 /// The kept flows that have one flow as their parent: a list `all` to contracts.
 pub trait Children {
-    ghost use Rattle.std.specs.Prelude.{◌≡◌, List, option_map};
-    ghost use Rattle.std.specs.Option.{option_copied};
+    ghost use Rattle.std.specs.Prelude.{◌≡◌, ◌<◌, ◌^◌, List};
     ghost use Rattle.wf_machine.specs.declared.sight.ChildState.{ChildState};
     ghost use Rattle.wf_rules.specs.Sight.{ended_child};
-    ghost use Rattle.wf_setting.specs.Setting.{child_seen};
 
     ghost all: { Self → List ChildState };
 
     /// The one of that number, where it has ended.
-    fn ended(&self, number: FlowNo) -> Option<&Flow>
-        ensures { option_map (λ child. child_seen child.flow) (option_copied result) ≡ ended_child (all self.now) number };
+    fn ended(&self, number: FlowNo) -> Option<EndedChild>
+        requires { number.0 < 2 ^ 56 }
+        ensures { result ≡ ended_child (all self.now) number };
 }
 
 /// The limits, the moment in milliseconds, and what stands beside a flow that is decided.

@@ -1,4 +1,4 @@
-use Rattle.std.proofs.Common.{sym, ◌∙◌}
+use Rattle.std.proofs.Common.{◌∙◌, sym, ap, Some}
 use Rattle.wf_core.proofs.BesideLemmas.{kept_ended, kept_open}
 use Rattle.wf_kept.specs.Flows.{kept}
 use Rattle.wf_core.proofs.beside.KeptChildrenChildren.ended.Goals as goal
@@ -6,7 +6,8 @@ use Rattle.wf_core.proofs.beside.KeptChildrenChildren.ended.Goals as goal
 pub returns-then-is_ended_child : goal.returns-then-is_ended_child
 returns-then-is_ended_child c =
     let table = c.args.self.now.flows.now in
-    sym
+    ap Some c.shown.ensures
+    ∙ sym
     (kept_ended c.args.self.now.parent c.args.number table.next_flow table.kept (kept c.in_ok-kept.kept.now) c.as_slice-rising.ensures.rising (sym c.in_ok-kept.ensures)
     (sym c.is_ended_child.ensures ∙ c.if-is_ended_child.true))
 
