@@ -9,7 +9,7 @@ use Rattle.wf_machine.specs.State.{Flow}
 use Rattle.wf_rules.specs.declared.acting.Act.{Act}
 use Rattle.wf_rules.specs.Acts.{Turn, make, made}
 use Rattle.wf_rules.specs.Making.{CanMakeAll}
-use Rattle.wf_rules.specs.Plans.{AllBelow, IsLater, Numbers, PlanHolds, due_moments, is_between, new_flows, new_tasks, plan, planned, turn_at}
+use Rattle.wf_rules.specs.Plans.{AllBelow, Numbers, PlanHolds, due_moments, is_between, new_flows, new_tasks, plan, planned, turn_at}
 use Rattle.wf_rules.specs.Rules.{after, choose, decide, rule, rules_at_most}
 use Rattle.wf_rules.specs.Sight.{Scene}
 use Rattle.wf_rules.proofs.PlanLemmas.{below_mono, made_flows, made_tasks, plan_decides, plan_holds, planned_more, planned_none}

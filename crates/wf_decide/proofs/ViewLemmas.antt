@@ -1,5 +1,5 @@
 -- What a plan reads in a view of a state, and in the state itself.
-use Rattle.std.proofs.Common.{◌≡◌, ◌∙◌, sym, ap, refl, ℕ, Bool, true, false, ◌&&◌, not, is_some, length, List, Option, None, Some}
+use Rattle.std.proofs.Common.{◌≡◌, ◌∙◌, sym, ap, refl, ℕ, Bool, false, ◌&&◌, not, is_some, length, Option, None, Some}
 use Rattle.std.specs.Option.{option_map_or}
 use Rattle.wf_names.specs.declared.ids.FlowNo.{FlowNo}
 use Rattle.wf_names.specs.declared.ids.TaskNo.{TaskNo}

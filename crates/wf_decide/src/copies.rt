@@ -29,9 +29,7 @@ fn copy_act(alloc: Global, act: &Act) -> Result<Act, NoMemory>
         }
         Act::Note(place, alert, reason) => Act::Note(*place, *alert, reason.copy(alloc)?),
         Act::Forgive(place) => Act::Forgive(*place),
-        Act::Turn(place, output, turn) => {
-            Act::Turn(*place, wf_doc::copy(alloc, output)?, *turn)
-        }
+        Act::Turn(place, output, turn) => { Act::Turn(*place, wf_doc::copy(alloc, output)?, *turn) }
         Act::Variables(variables) => Act::Variables(wf_doc::copy(alloc, variables)?),
         Act::NoteFlow(reason) => Act::NoteFlow(reason.copy(alloc)?),
         Act::End(status, reason, output) => {

@@ -1,6 +1,6 @@
 //! Plans: what a decision makes of a flow, with numbers and moments left open.
 
-ghost use Rattle.std.specs.Prelude.{◌≡◌, ◌+◌, ◌^◌, ◌≤◌, max, option_map, IfOk, OnOk};
+ghost use Rattle.std.specs.Prelude.{◌≡◌, ◌^◌, ◌≤◌, max, option_map, IfOk, OnOk};
 ghost use Rattle.std.specs.Option.{option_map_or};
 ghost use Rattle.wf_machine.specs.Records.{IsMoment};
 ghost use Rattle.wf_machine.specs.State.{RisingTo};
@@ -25,7 +25,6 @@ use wf_wire::Limits;
 
 /// Plans the flow beside what the view shows, at the moment or at that of the last change where that is later. The
 /// flow stays as it is: a copy of it is decided.
-#[tactic(auto, using(crate::proofs::PlannedLemmas::applies_at_once))]
 pub fn plan(
     alloc: Global,
     flow: &Flow,

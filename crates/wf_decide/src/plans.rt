@@ -57,7 +57,7 @@ impl Plan {
 }
 
 /// Makes what was planned, at the moment, of a flow that is as it was planned. After an error the turn is to be thrown away.
-#[tactic(auto, using(crate::proofs::PlannedLemmas::applied_fits, crate::proofs::PlannedLemmas::applied_tasks, crate::proofs::PlannedLemmas::applied_flows, crate::proofs::PlannedLemmas::applied_decides))]
+#[tactic(auto, using(crate::proofs::PlannedLemmas::applied_fits, crate::proofs::PlannedLemmas::applied_tasks, crate::proofs::PlannedLemmas::applied_flows))]
 pub fn apply(alloc: Global, plan: Plan, turn: &mut Turn, moment: u64) -> Result<(), NoMemory>
     requires moment { IsMoment moment }
     requires applies { Applies plan moment turn.old }

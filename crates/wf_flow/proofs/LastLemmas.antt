@@ -12,7 +12,7 @@ use Rattle.wf_flow.specs.Last.{greater, greatest}
 
 -- ---- in the order of the list
 
-abbrev later : Bool → Attempt → Option Attempt → Option Attempt
+abbrev pub later : Bool → Attempt → Option Attempt → Option Attempt
 later b a (Some x) = Some x
 later true a None = Some a
 later false a None = None
@@ -57,11 +57,11 @@ last_seen node iteration (a ∷ rest) =
 
 -- ---- by number
 
-abbrev IfAt : ℕ → Option Attempt → Type 0
+abbrev pub IfAt : ℕ → Option Attempt → Type 0
 IfAt low None = Unit {0}
 IfAt low (Some a) = low ≤ a.number.0
 
-at_least : (low node iteration : ℕ) (xs : List Attempt) → RisingFrom low xs → IfAt low (last_among node iteration xs)
+pub at_least : (low node iteration : ℕ) (xs : List Attempt) → RisingFrom low xs → IfAt low (last_among node iteration xs)
 unfolding last_among
 at_least low node iteration [] rising = tt
 at_least low node iteration (a ∷ rest) rising =

@@ -1,1 +1,3 @@
 pub mod PlaceLemmas
+pub mod LastLemmas
+pub mod RetryLemmas

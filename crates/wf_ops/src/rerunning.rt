@@ -14,8 +14,7 @@ use wf_flow::{Attempt, Flow, NodeTest, find_in, has_inside, is_looped};
 use wf_machine::{FlowDef, Node};
 use wf_names::{Refusal, TaskNo, TaskStatus};
 
-/// Lets a flow that has ended go on from the node of that attempt, with a new input where one is given. It takes no
-/// memory.
+/// Lets a flow that has ended go on from the node of that attempt, with a new input where one is given.
 #[tactic(auto, using(wf_machine::proofs::OperatorLemmas::rerun_over))]
 pub fn rerun(flow: &mut Flow, task: TaskNo, input: Option<Doc>, now: u64) -> Result<(), Refusal>
     requires { IsMoment now }

@@ -7,7 +7,7 @@ ghost use Rattle.wf_machine.specs.Records.{IsMoment};
 use wf_flow::Flow;
 use wf_names::{FlowStatus, Refusal};
 
-/// Lets a flow that has ended begin anew, without attempts and variables. It takes no memory.
+/// Lets a flow that has ended begin anew, without attempts and variables.
 #[tactic(auto, using(wf_machine::proofs::OperatorLemmas::restart_over))]
 pub fn restart(flow: &mut Flow, now: u64) -> Result<(), Refusal>
     requires { IsMoment now }

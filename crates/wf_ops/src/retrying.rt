@@ -13,7 +13,7 @@ use wf_flow::{Attempt, Flow};
 use wf_machine::FlowDef;
 use wf_names::{FlowStatus, Refusal};
 
-/// Lets a flow that has failed go on, with new attempts where it wasn't successful. It takes no memory.
+/// Lets a flow that has failed go on, with new attempts where it wasn't successful.
 #[tactic(auto, using(wf_machine::proofs::OperatorLemmas::retry_over))]
 pub fn retry(flow: &mut Flow, now: u64) -> Result<(), Refusal>
     requires { IsMoment now }

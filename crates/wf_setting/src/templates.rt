@@ -55,6 +55,9 @@ fn with_entry(
     if made.get(entry.key().as_str()).is_some() {
         return Ok(made);
     }
-    made.set(entry.key().copy(alloc)?, wf_doc::copy(alloc, entry.value())?)?;
+    made.set(
+        entry.key().copy(alloc)?,
+        wf_doc::copy(alloc, entry.value())?,
+    )?;
     Ok(made)
 }
