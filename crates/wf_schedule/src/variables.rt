@@ -56,7 +56,10 @@ fn with_entry(alloc: Global, entry: &SharedEntry<Doc>, table: Doc) -> Result<Doc
     ensures { IfOk result (λ made. made ≡ with_key entry.now.key entry.now.value table) }
 {
     let mut fields = into_fields(alloc, table);
-    fields.set(entry.key().copy(alloc)?, wf_doc::copy(alloc, entry.value())?)?;
+    fields.set(
+        entry.key().copy(alloc)?,
+        wf_doc::copy(alloc, entry.value())?,
+    )?;
     Ok(Doc::Table(fields))
 }
 
