@@ -147,6 +147,7 @@ fn add_one<C: Children>(
     ensures { IfOk result (λ acts. acts.items ≡ adding_one at.now.limits (sight_in at.now flow.now.flow) attempt) }
 {
     if at.limits.attempts as u64 <= flow.len() {
+        drop(attempt);
         fails(alloc, "attempt limit", None)
     } else {
         add_within(alloc, at.limits, attempt)
