@@ -1,5 +1,5 @@
 -- What a plan reads in a view of a state, and in the state itself.
-use Rattle.std.proofs.Common.{◌≡◌, ◌∙◌, sym, ap, refl, ℕ, Bool, false, ◌&&◌, not, is_some, length, Option, None, Some}
+use Rattle.std.proofs.Common.{◌≡◌, ◌∙◌, ap, refl, ℕ, Bool, false, ◌&&◌, not, is_some, length, Option, None, Some}
 use Rattle.std.specs.Option.{option_map_or}
 use Rattle.wf_names.specs.declared.ids.FlowNo.{FlowNo}
 use Rattle.wf_names.specs.declared.ids.TaskNo.{TaskNo}
@@ -9,7 +9,7 @@ use Rattle.wf_machine.specs.State.{Flow, State}
 use Rattle.wf_rules.specs.Acts.{Turn, made}
 use Rattle.wf_rules.specs.Plans.{Numbers, SameBeside, plan, turn_at}
 use Rattle.wf_rules.specs.Rules.{decide}
-use Rattle.wf_rules.specs.Sight.{Scene, is_open_in, is_orphan, scene_in}
+use Rattle.wf_rules.specs.Sight.{Scene, is_open_in, scene_in}
 use Rattle.wf_decide.specs.Viewing.{IsViewOf, numbers_in, numbers_of, scene_of}
 
 orphan_by : (is_open : FlowNo × TaskNo → Bool) (o : Option (FlowNo × TaskNo)) → (is_some o && not (option_map_or is_open o false)) ≡ option_map_or (λ parent. not (is_open parent)) o false
