@@ -1,3 +1,4 @@
+use Rattle.std.proofs.lemmas.Result.{err_from_is_err_and}
 use Rattle.std.proofs.Common.{◌≡◌, ◌+◌, [], Some, IsSomeAnd, length, ap, sym, subst, ◌∙◌, arith}
 use Rattle.wf_machine.specs.State.{Flow}
 use Rattle.wf_machine.specs.Flows.{flow_numbered}
@@ -44,3 +45,9 @@ returns-clause-ok c a there =
       moment = c.requires.moment;
       printable = c.in_ok-reply.ensures.printable;
     }
+
+pub returns-in_err-reserve-clause-ok : goal.returns-in_err-reserve-clause-ok
+returns-in_err-reserve-clause-ok c = let p = err_from_is_err_and c.from_residual.result c.from_residual.ensures.1 in rw p.1 tt
+
+pub returns-in_err-reply-clause-ok : goal.returns-in_err-reply-clause-ok
+returns-in_err-reply-clause-ok c = let p = err_from_is_err_and c.from_residual-in_err-reply.result c.from_residual-in_err-reply.ensures.1 in rw p.1 tt
