@@ -1,27 +1,35 @@
-//! A workflow for the tests beside it.
+//! Workflows for the tests beside it. They take no memory, so that a test has few ways out.
 
 use std::alloc::Global;
-use wf_doc::{Doc, Fields, Items, NoMemory, Text};
+use wf_doc::{Doc, Fields, Items, Text};
+use wf_flow::Flow;
 use wf_machine::{FlowDef, Node, NodeKind};
+use wf_names::FlowNo;
+
+pub fn nothing(alloc: Global) -> Text {
+    Text::from_string(String::new(alloc))
+}
 
 pub fn empty(alloc: Global) -> Doc {
     Doc::Table(Fields::new(alloc))
 }
 
-/// A workflow of one SIMPLE node, which is ready after two seconds.
-pub fn workflow(alloc: Global) -> Result<FlowDef, NoMemory> {
-    let mut nodes = Items::new(alloc);
-    nodes.push(Node {
+/// A SIMPLE node whose task and reference are empty texts.
+pub fn node(alloc: Global) -> Node {
+    Node {
         index: 0,
-        name: Text::new(alloc, "pack")?,
-        reference: Text::new(alloc, "p")?,
+        name: nothing(alloc),
+        reference: nothing(alloc),
         optional: false,
-        start_delay: 2,
+        start_delay: 0,
         input: empty(alloc),
         kind: NodeKind::Simple,
-    })?;
-    Ok(FlowDef {
-        name: Text::new(alloc, "ship")?,
+    }
+}
+
+fn workflow(alloc: Global, nodes: Items<Node>) -> FlowDef {
+    FlowDef {
+        name: nothing(alloc),
         version: 1,
         timeout: 0,
         alert_only: false,
@@ -30,5 +38,12 @@ pub fn workflow(alloc: Global) -> Result<FlowDef, NoMemory> {
         output: empty(alloc),
         nodes,
         document: empty(alloc),
-    })
+    }
+}
+
+/// The flow of number 2 over these nodes, which was made at the moment 40.
+pub fn flow(alloc: Global, nodes: Items<Node>) -> Flow {
+    let def = workflow(alloc, nodes);
+    let input = empty(alloc);
+    Flow::new(alloc, FlowNo(2), def, input, nothing(alloc), None, 0, 40)
 }
