@@ -6,10 +6,4 @@ mod kept;
 #[cfg(test)]
 mod machine;
 #[cfg(test)]
-mod operators;
-#[cfg(test)]
-mod plans;
-#[cfg(test)]
 mod templates;
-#[cfg(test)]
-mod workflows;
