@@ -3,8 +3,9 @@
 use std::test::Fail;
 use wf_core::Core;
 use wf_doc::Text;
-use wf_machine::{Call, Reply};
+use wf_machine::Reply;
 use wf_names::Refusal;
+use wf_steps::Call;
 use wf_wire::Limits;
 
 #[test]

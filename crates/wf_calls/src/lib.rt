@@ -1,4 +1,4 @@
-//! Calls of the machine and the replies to them: their plain types, and the documents that replies carry.
+//! The documents that replies carry.
 #![tactic(auto)]
 
 mod entries;
@@ -9,4 +9,3 @@ mod tasks;
 pub use flows::flow_document;
 pub use no_memory::NoMemory;
 pub use tasks::task_document;
-pub use wf_machine::{Call, Entry, Reply, TaskResult};

@@ -20,9 +20,10 @@ use crate::words::{Word, is_batch};
 use std::alloc::Global;
 use wf_core::Core;
 use wf_doc::{NoMemory, Text};
-use wf_machine::{Call, Reply};
+use wf_machine::Reply;
 use wf_names::Refusal;
 use wf_rest::{HttpFault, Routes, is_encoded, moment_of, print_fault, print_reply, read_call};
+use wf_steps::Call;
 use wf_wire::laws::{items_are_unique, read_messages_are_first};
 use wf_wire::{Clock, Inbox, Limits, Message, Next, Sink, Source, next_message, write_all};
 

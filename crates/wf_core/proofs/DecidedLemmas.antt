@@ -12,7 +12,7 @@ use Rattle.wf_wire.specs.declared.limits.Limits.{Limits}
 use Rattle.wf_machine.specs.declared.calling.Reply.TheVariants.{Id}
 use Rattle.wf_machine.specs.declared.definition.FlowDef.{FlowDef}
 use Rattle.wf_machine.specs.State.{Attempt, Flow, Kept, State, attempt_numbered, new_flow}
-use Rattle.wf_machine.specs.Flows.{ends_now, flow_numbered, has_open, is_concerned, is_flow, loses_parent, new_kept, revised}
+use Rattle.wf_machine.specs.Flows.{ends_now, flow_numbered, has_numbered, has_open, is_concerned, is_flow, loses_parent, new_kept, revised, stops}
 use Rattle.wf_flow.specs.Room.{FlowRoom}
 use Rattle.wf_rules.specs.Acts.{Turn}
 use Rattle.wf_rules.specs.Plans.{turn_at}
@@ -87,17 +87,12 @@ module _ (place : ℕ) (flow now : Flow) (parent : now.parent ≡ None) (none : 
       and_false true = refl
       and_false false = refl
 
-      and_three : (b c : Bool) → (b && false && c) ≡ false
-      and_three true true = refl
-      and_three true false = refl
-      and_three false true = refl
-      and_three false false = refl
-
       by_parent : (o : Option (FlowNo × TaskNo)) → option_map_or (loses_parent flow now) o false ≡ false
       by_parent None = refl
       by_parent (Some p) =
-          let closed : has_open p.1 flow ≡ false = ap (λ xs. option_map_or (λ (a : Attempt). task_is_open a.status) (attempt_numbered p.1 xs) false) none in
-          ap (λ b. (p.0.0 == now.number.0) && b && not (has_open p.1 now)) closed ∙ and_three (p.0.0 == now.number.0) (not (has_open p.1 now))
+          let before : List Attempt → Flow = λ xs. record flow { attempts = xs } in
+          let is_parent = p.0.0 == now.number.0 in
+          ap (λ xs. is_parent && (stops (has_open p.1) (before xs) now || stops (has_numbered p.1) (before xs) now)) none ∙ and_false is_parent
 
   others_stay : (low high : ℕ) (ks : List Kept) → RisesTo flow_number low high ks → high ≤ now.number.0 → map (revised place flow now) ks ≡ ks
   others_stay low high [] rising above = refl

@@ -9,8 +9,8 @@ ghost use Rattle.wf_wire.specs.declared.limits.Limits.{Limits};
 ghost use Rattle.wf_machine.specs.Flows.{flow_of_task};
 ghost use Rattle.wf_steps.specs.Calls.{is_wanted, step, stepped};
 ghost use Rattle.wf_machine.specs.State.{Attempt, Kept, State, attempt_numbered};
-ghost use Rattle.wf_machine.specs.declared.calling.Call.{Call};
-ghost use Rattle.wf_machine.specs.declared.calling.Entry.{Entry};
+ghost use Rattle.wf_steps.specs.declared.calling.Call.{Call};
+ghost use Rattle.wf_steps.specs.declared.calling.Entry.{Entry};
 ghost use Rattle.wf_machine.specs.declared.calling.Reply.{Reply};
 ghost use Rattle.wf_machine.specs.declared.calling.TaskResult.{TaskResult};
 

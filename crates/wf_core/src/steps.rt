@@ -14,8 +14,9 @@ use std::marker::Model;
 use wf_doc::Text;
 use wf_flow::Flow;
 use wf_kept::{HandBook, KeptFlows, Roomy, forget, forget_task, register_all, register_tasks};
-use wf_machine::{Call, FlowDef, Reply, TaskDef, TaskResult};
+use wf_machine::{FlowDef, Reply, TaskDef, TaskResult};
 use wf_names::{FlowNo, Refusal, TaskNo};
+use wf_steps::Call;
 use wf_wire::Limits;
 
 /// The machine: its state, the limits that it keeps, and the number of entries that it has made. What it keeps beside

@@ -8,7 +8,7 @@ use wf_flow::Flow;
 use wf_names::{FlowNo, TaskNo};
 
 /// The change of a flow from `before` to `now` is a change of the other one: of its parent where it ends, and of a child
-/// where the child's attempt ends.
+/// where the child's attempt ends or goes.
 pub fn is_concerned(before: &Flow, now: &Flow, other: &Flow) -> bool
     ensures { result ≡ spec.is_concerned before.now.flow now.now.flow other.now.flow }
 {
@@ -30,7 +30,7 @@ fn ends_now(before: &Flow, now: &Flow) -> bool
     before.status().is_open() && !now.status().is_open()
 }
 
-/// The flow's attempt is one of the changed flow, and ends by the change.
+/// The flow's attempt is one of the changed flow, and ends or goes by the change.
 fn is_orphaned(before: &Flow, now: &Flow, flow: &Flow) -> bool
     ensures { result ≡ option_map_or (spec.loses_parent before.now.flow now.now.flow) flow.now.flow.parent false }
 {
@@ -43,7 +43,20 @@ fn is_orphaned(before: &Flow, now: &Flow, flow: &Flow) -> bool
 fn loses_parent(before: &Flow, now: &Flow, parent: (FlowNo, TaskNo)) -> bool
     ensures { result ≡ spec.loses_parent before.now.flow now.now.flow parent }
 {
-    parent.0.0 == now.number().0 && has_open(before, parent.1) && !has_open(now, parent.1)
+    parent.0.0 == now.number().0
+        && (stops_open(before, now, parent.1) || stops_there(before, now, parent.1))
+}
+
+fn stops_open(before: &Flow, now: &Flow, task: TaskNo) -> bool
+    ensures { result ≡ spec.stops (spec.has_open task) before.now.flow now.now.flow }
+{
+    has_open(before, task) && !has_open(now, task)
+}
+
+fn stops_there(before: &Flow, now: &Flow, task: TaskNo) -> bool
+    ensures { result ≡ spec.stops (spec.has_numbered task) before.now.flow now.now.flow }
+{
+    before.attempt(task).is_some() && now.attempt(task).is_none()
 }
 
 fn has_open(flow: &Flow, task: TaskNo) -> bool

@@ -19,9 +19,9 @@ use Rattle.wf_wire.specs.declared.limits.Limits.{Limits}
 use Rattle.wf_machine.specs.declared.definition.FlowDef.{FlowDef}
 use Rattle.wf_machine.specs.declared.definition.TaskDef.{TaskDef}
 use Rattle.wf_machine.specs.declared.calling.TaskResult.{TaskResult}
-use Rattle.wf_machine.specs.declared.calling.Call.{Call}
-use Rattle.wf_machine.specs.declared.calling.Call.TheVariants.{PutTaskDefs, UpdateTaskDef, TaskDefs, TaskDefNamed, DropTaskDef, AddFlowDef, PutFlowDefs, FlowDefs, FlowDefNamed, DropFlowDef, Start, GetFlow, Running, Poll, GetTask, Update, Decide, Sweep}
-use Rattle.wf_machine.specs.declared.calling.Entry.{Entry}
+use Rattle.wf_steps.specs.declared.calling.Call.{Call}
+use Rattle.wf_steps.specs.declared.calling.Call.TheVariants.{PutTaskDefs, UpdateTaskDef, TaskDefs, TaskDefNamed, DropTaskDef, AddFlowDef, PutFlowDefs, FlowDefs, FlowDefNamed, DropFlowDef, Start, GetFlow, Running, Poll, GetTask, Update, Decide, Sweep}
+use Rattle.wf_steps.specs.declared.calling.Entry.{Entry}
 use Rattle.wf_machine.specs.declared.calling.Reply.{Reply}
 use Rattle.wf_machine.specs.declared.calling.Reply.TheVariants.{Nothing}
 use Rattle.wf_machine.specs.State.{Attempt, Flow, Kept, State, RisingTo, attempt_numbered, is_numbered, new_flow, with_attempt}

@@ -4,9 +4,9 @@ use Rattle.wf_names.specs.declared.ids.TaskNo.{TaskNo}
 use Rattle.wf_names.specs.declared.statuses.TaskStatus.{TaskStatus}
 use Rattle.wf_names.specs.declared.statuses.TaskStatus.TheVariants.{InProgress}
 use Rattle.wf_wire.specs.declared.limits.Limits.{Limits}
-use Rattle.wf_machine.specs.declared.calling.Call.{Call}
-use Rattle.wf_machine.specs.declared.calling.Call.TheVariants.{Poll, Update}
-use Rattle.wf_machine.specs.declared.calling.Entry.{Entry}
+use Rattle.wf_steps.specs.declared.calling.Call.{Call}
+use Rattle.wf_steps.specs.declared.calling.Call.TheVariants.{Poll, Update}
+use Rattle.wf_steps.specs.declared.calling.Entry.{Entry}
 use Rattle.wf_machine.specs.declared.calling.Reply.{Reply}
 use Rattle.wf_machine.specs.declared.calling.Reply.TheVariants.{Id}
 use Rattle.wf_machine.specs.Queues.{next_waiting}

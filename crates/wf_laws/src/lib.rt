@@ -9,7 +9,7 @@ ghost use Rattle.wf_laws.specs.HandOuts.{HandsOut, is_told_on};
 ghost use Rattle.wf_laws.specs.Sound.{BringsFitLoops, HasFitLoops, IsSound};
 ghost use Rattle.wf_machine.specs.Flows.{flow_numbered};
 ghost use Rattle.wf_machine.specs.State.{Kept, State, new_state};
-ghost use Rattle.wf_machine.specs.declared.calling.Entry.{Entry};
+ghost use Rattle.wf_steps.specs.declared.calling.Entry.{Entry};
 ghost use Rattle.wf_names.specs.declared.ids.FlowNo.{FlowNo};
 ghost use Rattle.wf_names.specs.declared.ids.TaskNo.{TaskNo};
 ghost use Rattle.wf_rules.specs.Loops.{LoopsFit};

@@ -1,5 +1,5 @@
 -- Kept flows: how they are found, and which of them a change of one concerns.
-use Rattle.std.specs.Prelude.{ℕ, ◌==◌, ◌&&◌, ◌||◌, Bool, false, not, is_some, if◌then◌else◌, List, Option}
+use Rattle.std.specs.Prelude.{ℕ, ◌==◌, ◌&&◌, ◌||◌, Bool, false, not, is_some, if◌then◌else◌, List, [], filter, map, Option}
 use Rattle.std.specs.List.{find}
 use Rattle.std.specs.Option.{option_map_or}
 use Rattle.wf_names.specs.declared.ids.FlowNo.{FlowNo}
@@ -40,11 +40,19 @@ is_parent_of f number = option_map_or (λ (parent : FlowNo × TaskNo). parent.0.
 abbrev pub has_open : TaskNo → Flow → Bool
 has_open task f = option_map_or (λ (a : Attempt). task_is_open a.status) (attempt_numbered task f.attempts) false
 
--- the flow's parent is this one, and its attempt there ends between the two
-abbrev pub loses_parent : Flow → Flow → FlowNo × TaskNo → Bool
-loses_parent before now parent = (parent.0.0 == now.number.0) && has_open parent.1 before && not (has_open parent.1 now)
+abbrev pub has_numbered : TaskNo → Flow → Bool
+has_numbered task f = is_some (attempt_numbered task f.attempts)
 
--- the change of a flow is a change of its parent where the flow ends, and of its children where their attempts do
+-- it holds before, and no more now
+abbrev pub stops : (Flow → Bool) → Flow → Flow → Bool
+stops test before now = test before && not (test now)
+
+-- the flow's parent is this one, and its attempt there ends between the two, or goes
+abbrev pub loses_parent : Flow → Flow → FlowNo × TaskNo → Bool
+loses_parent before now parent =
+    (parent.0.0 == now.number.0) && (stops (has_open parent.1) before now || stops (has_numbered parent.1) before now)
+
+-- the change of a flow is a change of its parent where the flow ends, and of its children where their attempts end or go
 abbrev pub is_concerned : Flow → Flow → Flow → Bool
 is_concerned before now f =
     (ends_now before now && is_parent_of now f.number) || option_map_or (loses_parent before now) f.parent false
@@ -55,3 +63,16 @@ revised place before now k =
     if is_flow now.number k then new_kept place now
     else if is_concerned before now k.flow then record k { revision = place }
     else k
+
+-- ---- removals
+
+-- a flow that goes: its children lose its attempts
+abbrev pub emptied : Flow → Flow
+emptied f = record f { attempts = [] }
+
+abbrev pub is_other : FlowNo → Kept → Bool
+is_other number k = not (is_flow number k)
+
+-- the kept flows without that one and its attempts, which go by the entry at that place
+abbrev pub removed : ℕ → Flow → List Kept → List Kept
+removed place f flows = filter (is_other f.number) (map (revised place f (emptied f)) flows)

@@ -1,8 +1,7 @@
-//! Calls of the machine, replies to them, and the entries of its history.
+//! What workers tell, and the replies to calls.
 
-use crate::definition::{FlowDef, FlowDefs, TaskDef, TaskDefs};
 use wf_doc::{Doc, Text};
-use wf_names::{FlowNo, IdKind, Refusal, TaskNo, TaskStatus};
+use wf_names::{IdKind, Refusal, TaskStatus};
 
 /// What a worker tells of an attempt. The status is IN_PROGRESS, COMPLETED, FAILED or FAILED_WITH_TERMINAL_ERROR.
 #[derive(Drop)]
@@ -17,56 +16,6 @@ pub struct TaskResult {
     pub worker: Option<Text>,
 }
 
-/// A call of the machine.
-#[derive(Drop)]
-pub enum Call {
-    /// Registers tasks, each in place of one of its name.
-    PutTaskDefs(TaskDefs),
-    /// Registers a task in place of the one of its name, which has to be there.
-    UpdateTaskDef(TaskDef),
-    /// Reads all tasks, by name.
-    TaskDefs,
-    /// Reads the task of that name.
-    TaskDefNamed(Text),
-    /// Forgets the task of that name.
-    DropTaskDef(Text),
-    /// Registers a workflow under its name and version.
-    AddFlowDef(FlowDef),
-    /// Registers workflows, each in place of one of its name and version.
-    PutFlowDefs(FlowDefs),
-    /// Reads all workflows, by name and then by version.
-    FlowDefs,
-    /// Reads a workflow: without a version, the greatest that is registered.
-    FlowDefNamed(Text, Option<u32>),
-    /// Forgets the workflow of that name and version.
-    DropFlowDef(Text, u32),
-    /// Starts a workflow: without a version, the greatest that is registered.
-    Start {
-        name: Text,
-        version: Option<u32>,
-        input: Doc,
-        correlation: Text,
-    },
-    /// Reads a flow, and its attempts where that is asked for.
-    GetFlow(FlowNo, bool),
-    /// Reads the ids of the running flows of a workflow, of all its versions or of one.
-    Running(Text, Option<u32>),
-    /// Hands out an attempt at the tasks of that name, to that worker.
-    Poll(Text, Text),
-    /// Reads an attempt.
-    GetTask(TaskNo),
-    /// Tells what came of an attempt. A flow that is given has to be the attempt's own.
-    Update {
-        flow: Option<FlowNo>,
-        task: TaskNo,
-        outcome: TaskResult,
-    },
-    /// Decides a flow.
-    Decide(FlowNo),
-    /// Decides the flow of the least number that has something to be decided.
-    Sweep,
-}
-
 #[derive(Drop)]
 pub enum Reply {
     Accepted,
@@ -75,13 +24,4 @@ pub enum Reply {
     /// There is nothing to hand out or to do.
     Nothing,
     Refused(Refusal),
-}
-
-/// One entry of a history. A starved one was refused for want of memory, and changes nothing.
-#[derive(Drop)]
-pub struct Entry {
-    pub caller: u64,
-    pub moment: u64,
-    pub call: Call,
-    pub starved: bool,
 }

@@ -13,7 +13,7 @@ mod sight;
 mod timed;
 mod walking;
 
-pub use calling::{Call, Entry, Reply, TaskResult};
+pub use calling::{Reply, TaskResult};
 pub use definition::{
     Branch, Case, Cases, Count, FlowDef, FlowDefs, Node, NodeKind, Nodes, TaskDef, TaskDefs,
 };

@@ -5,14 +5,14 @@ use Rattle.std.proofs.lemmas.Bool.{leb-true}
 use Rattle.wf_doc.specs.declared.doc.Doc.{Doc}
 use Rattle.wf_wire.specs.Request.{Request}
 use Rattle.wf_wire.specs.declared.limits.Limits.{Limits}
-use Rattle.wf_machine.specs.declared.calling.Call.{Call}
+use Rattle.wf_steps.specs.declared.calling.Call.{Call}
 use Rattle.wf_steps.specs.Calls.{IsProper}
 use Rattle.wf_fields.specs.Fields.{given, as_whole, as_count, count}
 use Rattle.wf_names.specs.TaskStatus.{task_status_named}
 use Rattle.wf_doc.specs.Doc.{as_text}
 use Rattle.wf_names.specs.declared.statuses.TaskStatus.{TaskStatus}
 use Rattle.wf_names.specs.declared.statuses.TaskStatus.TheVariants.{Scheduled, InProgress, Completed, CompletedWithErrors, Skipped, Failed, FailedWithTerminalError, TimedOut, Canceled}
-use Rattle.wf_machine.specs.declared.calling.Call.TheVariants as call
+use Rattle.wf_steps.specs.declared.calling.Call.TheVariants as call
 use Rattle.wf_defs.specs.declared.faults.DefFault.{DefFault}
 use Rattle.wf_routes.specs.declared.table.Route.{Route}
 use Rattle.wf_routes.specs.declared.table.Route.TheVariants as route

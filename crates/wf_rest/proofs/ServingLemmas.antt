@@ -6,9 +6,9 @@ use Rattle.std.proofs.lemmas.List.Elements.{filter_map-append}
 use Rattle.std.proofs.lemmas.List.Folds.{list_all-append}
 use Rattle.wf_wire.specs.Request.{Request}
 use Rattle.wf_wire.specs.declared.limits.Limits.{Limits}
-use Rattle.wf_machine.specs.declared.calling.Call.{Call}
+use Rattle.wf_steps.specs.declared.calling.Call.{Call}
 use Rattle.wf_machine.specs.declared.calling.Reply.{Reply}
-use Rattle.wf_machine.specs.declared.calling.Entry.{Entry}
+use Rattle.wf_steps.specs.declared.calling.Entry.{Entry}
 use Rattle.wf_machine.specs.State.{State}
 use Rattle.wf_steps.specs.Calls.{is_starved, entry_of}
 use Rattle.wf_steps.specs.History.{stored, state_after, replies_of}

@@ -9,8 +9,8 @@ use Rattle.wf_names.specs.declared.ids.IdKind.TheVariants as kind
 use Rattle.wf_names.specs.Ids.{id_read, kind_octet}
 use Rattle.wf_names.specs.declared.statuses.TaskStatus.{TaskStatus}
 use Rattle.wf_names.specs.TaskStatus.{task_status_named}
-use Rattle.wf_machine.specs.declared.calling.Call.{Call}
-use Rattle.wf_machine.specs.declared.calling.Call.TheVariants.{PutTaskDefs, UpdateTaskDef, AddFlowDef, PutFlowDefs, Start, Update}
+use Rattle.wf_steps.specs.declared.calling.Call.{Call}
+use Rattle.wf_steps.specs.declared.calling.Call.TheVariants.{PutTaskDefs, UpdateTaskDef, AddFlowDef, PutFlowDefs, Start, Update}
 use Rattle.wf_machine.specs.declared.calling.TaskResult.{TaskResult}
 use Rattle.wf_machine.specs.Tasks.{is_result_status}
 use Rattle.wf_fields.specs.declared.fields.Form.TheVariants.{AText, ATable}

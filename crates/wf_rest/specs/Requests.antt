@@ -11,7 +11,7 @@ use Rattle.wf_names.specs.declared.ids.IdKind.TheVariants as kind
 use Rattle.wf_wire.specs.Fields.{same_word}
 use Rattle.wf_wire.specs.Request.{Request, values_of}
 use Rattle.wf_wire.specs.declared.limits.Limits.{Limits}
-use Rattle.wf_machine.specs.declared.calling.Call.TheVariants as call
+use Rattle.wf_steps.specs.declared.calling.Call.TheVariants as call
 use Rattle.wf_machine.specs.State.{empty_table}
 use Rattle.wf_machine.specs.Text.{same_text}
 use Rattle.wf_routes.specs.declared.faults.Unrouted.{Unrouted}

@@ -5,10 +5,10 @@ use Rattle.std.specs.List.{cons_option, filter_map, list_all, list_any}
 use Rattle.wf_names.specs.declared.refusals.Refusal.TheVariants.{NoMemory}
 use Rattle.wf_wire.specs.Request.{Request, closes}
 use Rattle.wf_wire.specs.declared.limits.Limits.{Limits}
-use Rattle.wf_machine.specs.declared.calling.Call.{Call}
+use Rattle.wf_steps.specs.declared.calling.Call.{Call}
 use Rattle.wf_machine.specs.declared.calling.Reply.{Reply}
 use Rattle.wf_machine.specs.declared.calling.Reply.TheVariants.{Refused}
-use Rattle.wf_machine.specs.declared.calling.Entry.{Entry}
+use Rattle.wf_steps.specs.declared.calling.Entry.{Entry}
 use Rattle.wf_machine.specs.State.{State}
 use Rattle.wf_steps.specs.Calls.{stepped, is_starved, entry_of, step}
 use Rattle.wf_machine.specs.Text.{same_text}

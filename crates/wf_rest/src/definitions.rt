@@ -7,7 +7,7 @@ use crate::faulting::HttpFault;
 use std::alloc::Global;
 use wf_defs::{DefFault, read_flowdef, read_flowdefs, read_taskdef, read_taskdefs};
 use wf_doc::Doc;
-use wf_machine::Call;
+use wf_steps::Call;
 use wf_wire::Limits;
 
 /// Tasks that are registered, each in place of one of its name.

@@ -10,9 +10,9 @@ use crate::faulting::HttpFault;
 use crate::routed::by_route;
 use std::alloc::Global;
 use wf_doc::{NoMemory, Text};
-use wf_machine::Call;
 use wf_routes::table::Route;
 use wf_routes::{Query, Routes, Unrouted, split_target};
+use wf_steps::Call;
 use wf_wire::{FieldLook, Limits, Message};
 
 /// The call that a request is in the store with that mark, or the first reason why it is none.

@@ -13,9 +13,9 @@ use crate::targets::{
 };
 use crate::updates::update_of;
 use std::alloc::Global;
-use wf_machine::Call;
 use wf_routes::Query;
 use wf_routes::table::Route;
+use wf_steps::Call;
 use wf_wire::Limits;
 
 /// The call of a request with that route, in the store with that mark.

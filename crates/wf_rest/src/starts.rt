@@ -12,7 +12,7 @@ use wf_fields::{
     Form, as_count, given, is_absent, is_absent_or_formed, is_absent_or_number, is_formed,
     table_in, text_in,
 };
-use wf_machine::Call;
+use wf_steps::Call;
 
 /// The start that a body describes.
 pub fn start_of(alloc: Global, doc: &Doc) -> Result<Call, HttpFault>

@@ -13,8 +13,9 @@ use wf_doc::{Doc, NoMemory, Text};
 use wf_fields::{
     Form, given, is_absent_or_formed, is_absent_or_number, is_formed, number_or, table_in, text_in,
 };
-use wf_machine::{Call, TaskResult};
+use wf_machine::TaskResult;
 use wf_names::{FlowNo, TaskStatus};
+use wf_steps::Call;
 
 /// The update that a body describes.
 pub fn update_of(alloc: Global, mark: u32, doc: &Doc) -> Result<Call, HttpFault>

@@ -8,11 +8,11 @@ use Rattle.wf_doc.specs.declared.doc.Doc.{Doc}
 use Rattle.wf_wire.specs.Request.{Request}
 use Rattle.wf_wire.specs.declared.limits.Limits.{Limits}
 use Rattle.wf_machine.specs.State.{new_state}
-use Rattle.wf_machine.specs.declared.calling.Entry.{Entry}
+use Rattle.wf_steps.specs.declared.calling.Entry.{Entry}
 use Rattle.wf_steps.specs.History.{state_after}
 use Rattle.wf_run_laws.specs.Asking.{IsAsked}
-use Rattle.wf_machine.specs.declared.calling.Call.{Call}
-use Rattle.wf_machine.specs.declared.calling.Call.TheVariants as call
+use Rattle.wf_steps.specs.declared.calling.Call.{Call}
+use Rattle.wf_steps.specs.declared.calling.Call.TheVariants as call
 use Rattle.wf_machine.specs.declared.definition.FlowDef.{FlowDef}
 use Rattle.wf_fields.specs.Fields.{given}
 use Rattle.wf_names.specs.declared.statuses.TaskStatus.{TaskStatus}

@@ -2,7 +2,7 @@
 use Rattle.std.specs.Prelude.{◌≡◌, ℕ, Ok}
 use Rattle.wf_wire.specs.Request.{Request}
 use Rattle.wf_wire.specs.declared.limits.Limits.{Limits}
-use Rattle.wf_machine.specs.declared.calling.Call.{Call}
+use Rattle.wf_steps.specs.declared.calling.Call.{Call}
 use Rattle.wf_rest.specs.Requests.{request_call}
 
 -- some request in the store with that mark is the call

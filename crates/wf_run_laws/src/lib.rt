@@ -4,8 +4,8 @@
 ghost use Rattle.std.specs.Prelude.{◌≡◌, ℕ, All, List, Ok};
 ghost use Rattle.wf_laws.specs.Sound.{BringsFitLoops, HasFitLoops};
 ghost use Rattle.wf_machine.specs.State.{new_state};
-ghost use Rattle.wf_machine.specs.declared.calling.Call.{Call};
-ghost use Rattle.wf_machine.specs.declared.calling.Entry.{Entry};
+ghost use Rattle.wf_steps.specs.declared.calling.Call.{Call};
+ghost use Rattle.wf_steps.specs.declared.calling.Entry.{Entry};
 ghost use Rattle.wf_rest.specs.Requests.{request_call};
 ghost use Rattle.wf_run_laws.specs.Asking.{IsAsked};
 ghost use Rattle.wf_steps.specs.History.{state_after};

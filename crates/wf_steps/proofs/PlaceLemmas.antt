@@ -9,16 +9,18 @@ use Rattle.wf_doc.specs.declared.doc.Doc.TheVariants.{List as Listed}
 use Rattle.wf_names.specs.declared.ids.FlowNo.{FlowNo}
 use Rattle.wf_names.specs.declared.ids.TaskNo.{TaskNo}
 use Rattle.wf_names.specs.declared.ids.IdKind.TheVariants as kind
+use Rattle.wf_names.specs.declared.refusals.Refusal.{Refusal}
 use Rattle.wf_names.specs.declared.refusals.Refusal.TheVariants.{NotFound, StoreFull, DocumentLimit, NotUpdatable}
 use Rattle.wf_names.specs.TaskStatus.{task_is_open}
 use Rattle.wf_wire.specs.declared.limits.Limits.{Limits}
 use Rattle.wf_machine.specs.declared.definition.FlowDef.{FlowDef}
 use Rattle.wf_machine.specs.declared.definition.TaskDef.{TaskDef}
 use Rattle.wf_machine.specs.declared.calling.TaskResult.{TaskResult}
-use Rattle.wf_machine.specs.declared.calling.Call.{Call}
-use Rattle.wf_machine.specs.declared.calling.Call.TheVariants.{PutTaskDefs, UpdateTaskDef, TaskDefs, TaskDefNamed, DropTaskDef, AddFlowDef, PutFlowDefs, FlowDefs, FlowDefNamed, DropFlowDef, Start, GetFlow, Running, Poll, GetTask, Update, Decide, Sweep}
+use Rattle.wf_steps.specs.declared.calling.Call.{Call}
+use Rattle.wf_steps.specs.declared.calling.Call.TheVariants.{PutTaskDefs, UpdateTaskDef, TaskDefs, TaskDefNamed, DropTaskDef, AddFlowDef, PutFlowDefs, FlowDefs, FlowDefNamed, DropFlowDef, Start, GetFlow, Running, Poll, GetTask, Update, Decide, Sweep}
 use Rattle.wf_machine.specs.declared.calling.Reply.TheVariants.{Accepted, Id, Json, Nothing}
-use Rattle.wf_machine.specs.declared.calling.Entry.{Entry}
+use Rattle.wf_steps.specs.declared.calling.Entry.{Entry}
+use Rattle.wf_steps.specs.declared.operation.Operation.{Operation}
 use Rattle.wf_machine.specs.State.{Attempt, Flow, Kept, State, attempt_numbered, new_flow, with_attempt}
 use Rattle.wf_machine.specs.Records.{is_kind_at, is_simple}
 use Rattle.wf_machine.specs.Tasks.{handed_out, result_applied, takes_update}
@@ -26,11 +28,12 @@ use Rattle.wf_machine.specs.Queues.{Waiting, waiting_in, all_waiting, first_wait
 use Rattle.wf_machine.specs.Documents.{task_document}
 use Rattle.wf_machine.specs.Naming.{with_template}
 use Rattle.wf_machine.specs.Registered.{task_def_named, flow_def_at, flow_def_for}
-use Rattle.wf_machine.specs.Flows.{is_flow, revised, is_concerned, new_kept, has_attempt, flow_numbered, flow_of_task}
+use Rattle.wf_machine.specs.Operators.{first_refusal, remove_refusals}
+use Rattle.wf_machine.specs.Flows.{emptied, is_flow, is_other, removed, revised, is_concerned, new_kept, has_attempt, flow_numbered, flow_of_task}
 use Rattle.wf_rules.specs.Sight.{is_open_there, is_open_in, is_child_of, child_state, Scene, scene_in}
 use Rattle.wf_rules.specs.Rules.{choose}
 use Rattle.wf_rules.specs.Plans.{turn_at}
-use Rattle.wf_steps.specs.Calls.{Stepped, stepped, call_made, put_task_defs, update_task_def, drop_task_def, get_task_def, register, put_flow_defs, drop_flow_def, get_flow_def, get_running, runs_as, id_of, start, start_of, start_with, started, refused, is_full, is_too_long, decided, with_decided, is_settled, settle, needs, decide_flow, sweep, get_flow, get_task, task_read, poll, hand_over, update, update_of, is_wanted, flow_updated, task_updated, settled_with, step}
+use Rattle.wf_steps.specs.Calls.{Stepped, stepped, call_made, put_task_defs, update_task_def, drop_task_def, get_task_def, register, put_flow_defs, drop_flow_def, get_flow_def, get_running, runs_as, id_of, start, start_of, start_with, started, refused, is_full, is_too_long, decided, with_decided, is_settled, settle, needs, decide_flow, sweep, get_flow, get_task, task_read, poll, hand_over, update, update_of, is_wanted, flow_updated, task_updated, settled_with, or_refused, of_flow, operation_refusals, operation_reply, operated, next_after, stops_flow, with_undecided, with_operated, flow_operated, operate, is_parent_kept, flow_removed, remove, step}
 use Rattle.wf_steps.specs.History.{unplaced, stored}
 
 -- what is stored of what a step leaves
@@ -268,6 +271,90 @@ update-stored : (limits : Limits) (place e : ℕ) (wanted : Option FlowNo) (task
 unfolding update
 update-stored limits place e wanted task outcome s =
     rw (find-through unplaced (has_attempt task) s.flows (λ k. refl)) (update_of-stored limits place e wanted task outcome (flow_of_task task s.flows) s)
+
+-- ---- what operators do
+
+or_refused-stored : (o : Option Refusal) (made made' : Stepped) (s : State) → stored_step made ≡ made' → stored_step (or_refused o made s) ≡ or_refused o made' (stored s)
+or_refused-stored None made made' s h = h
+or_refused-stored (Some refusal) made made' s h = refl
+
+of_flow-stored : (number : FlowNo) (made made' : Flow → Stepped) (s : State) → ((f : Flow) → stored_step (made f) ≡ made' f)
+    → stored_step (of_flow number made s) ≡ of_flow number made' (stored s)
+of_flow-stored number made made' s h =
+    rw (find-through unplaced (is_flow number) s.flows (λ k. refl))
+    (stored-found unplaced (flow_numbered number s.flows) (λ (k : Kept). made k.flow) (λ (k : Kept). made' k.flow) (refused NotFound s) (refused NotFound (stored s))
+    (λ k. h k.flow) refl)
+
+undecided-stored : (place e : ℕ) (before now : Flow) (s : State) → stored (with_undecided place e before now s) ≡ with_undecided 0 e before now (stored s)
+undecided-stored place e before now s = rw (all_revised-stored place before now s.flows) refl
+
+operated-stored : (limits : Limits) (place e : ℕ) (operation : Operation) (f : Flow) (s : State)
+    → stored (with_operated limits place e operation f s) ≡ with_operated limits 0 e operation f (stored s)
+operated-stored limits place e operation f s = by_test (stops_flow operation) where
+  now : Flow
+  now = operated e s.next_task operation f
+
+  there : State
+  there = record s { next_task = next_after operation s.next_task }
+
+  by_test : (b : Bool)
+      → stored (if b then with_undecided place e f now s else with_decided limits place e f now there)
+      ≡ (if b then with_undecided 0 e f now (stored s) else with_decided limits 0 e f now (stored there))
+  by_test true = undecided-stored place e f now s
+  by_test false = with_decided-stored limits place e f now there
+
+flow_operated-stored : (limits : Limits) (place e : ℕ) (operation : Operation) (s : State) (f : Flow)
+    → stored_step (flow_operated limits place e operation s f) ≡ flow_operated limits 0 e operation (stored s) f
+flow_operated-stored limits place e operation s f =
+    let reply = operation_reply operation f.number in
+    or_refused-stored (first_refusal (operation_refusals limits s.next_task operation f)) (stepped (with_operated limits place e operation f s) reply)
+    (stepped (with_operated limits 0 e operation f (stored s)) reply) s
+    (ap (λ t. stepped t reply) (operated-stored limits place e operation f s))
+
+pub operate-stored : (limits : Limits) (place e : ℕ) (number : FlowNo) (operation : Operation) (s : State)
+    → stored_step (operate limits place e number operation s) ≡ operate limits 0 e number operation (stored s)
+unfolding operate
+operate-stored limits place e number operation s =
+    of_flow-stored number (flow_operated limits place e operation s) (flow_operated limits 0 e operation (stored s)) s
+    (flow_operated-stored limits place e operation s)
+
+parent_kept-stored : (s : State) (f : Flow) → is_parent_kept (stored s) f ≡ is_parent_kept s f
+parent_kept-stored s f = by_parent f.parent where
+  by_found : (o : Option Kept) → is_some (option_map unplaced o) ≡ is_some o
+  by_found None = refl
+  by_found (Some k) = refl
+
+  by_parent : (o : Option (FlowNo × TaskNo))
+      → option_map_or (λ (parent : FlowNo × TaskNo). is_some (flow_numbered parent.0 (map unplaced s.flows))) o false
+      ≡ option_map_or (λ (parent : FlowNo × TaskNo). is_some (flow_numbered parent.0 s.flows)) o false
+  by_parent None = refl
+  by_parent (Some parent) = rw (find-through unplaced (is_flow parent.0) s.flows (λ k. refl)) (by_found (flow_numbered parent.0 s.flows))
+
+others-stored : (number : FlowNo) (flows : List Kept) → map unplaced (filter (is_other number) flows) ≡ filter (is_other number) (map unplaced flows)
+others-stored number [] = refl
+others-stored number (k ∷ ks) = by_test (is_other number k) (others-stored number ks) where
+  by_test : (b : Bool) → map unplaced (filter (is_other number) ks) ≡ filter (is_other number) (map unplaced ks)
+      → map unplaced (if b then k ∷ filter (is_other number) ks else filter (is_other number) ks)
+      ≡ (if b then unplaced k ∷ filter (is_other number) (map unplaced ks) else filter (is_other number) (map unplaced ks))
+  by_test true h = ap (λ rest. unplaced k ∷ rest) h
+  by_test false h = h
+
+removed-stored : (place : ℕ) (f : Flow) (flows : List Kept) → map unplaced (removed place f flows) ≡ removed 0 f (map unplaced flows)
+removed-stored place f flows =
+    rw (others-stored f.number (map (revised place f (emptied f)) flows), all_revised-stored place f (emptied f) flows) refl
+
+flow_removed-stored : (place e : ℕ) (s : State) (f : Flow) → stored_step (flow_removed place e s f) ≡ flow_removed 0 e (stored s) f
+flow_removed-stored place e s f =
+    let made : ℕ → State → Stepped = λ p t. stepped (record t { last = e; flows = removed p f t.flows }) Accepted in
+    or_refused-stored (first_refusal (remove_refusals (is_parent_kept s f) f)) (made place s) (made 0 (stored s)) s
+    (ap (λ flows. stepped (record (stored s) { last = e; flows = flows }) Accepted) (removed-stored place f s.flows))
+    ∙ ap (λ kept. or_refused (first_refusal (remove_refusals kept f)) (made 0 (stored s)) (stored s)) (sym (parent_kept-stored s f))
+
+pub remove-stored : (place e : ℕ) (number : FlowNo) (s : State) → stored_step (remove place e number s) ≡ remove 0 e number (stored s)
+unfolding remove
+remove-stored place e number s = of_flow-stored number (flow_removed place e s) (flow_removed 0 e (stored s)) s (flow_removed-stored place e s)
+
+-- ---- all calls
 
 -- a call at any place leaves of the stored state what it leaves at none
 call-stored : (limits : Limits) (place e : ℕ) (call : Call) (s : State) → stored_step (call_made limits place e call s) ≡ call_made limits 0 e call (stored s)

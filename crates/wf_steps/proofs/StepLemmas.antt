@@ -10,17 +10,20 @@ use Rattle.wf_wire.specs.declared.limits.Limits.{Limits}
 use Rattle.wf_machine.specs.declared.definition.FlowDef.{FlowDef}
 use Rattle.wf_machine.specs.declared.definition.TaskDef.{TaskDef}
 use Rattle.wf_machine.specs.declared.calling.TaskResult.{TaskResult}
-use Rattle.wf_machine.specs.declared.calling.Call.{Call}
-use Rattle.wf_machine.specs.declared.calling.Call.TheVariants.{PutTaskDefs, UpdateTaskDef, TaskDefs, TaskDefNamed, DropTaskDef, AddFlowDef, PutFlowDefs, FlowDefs, FlowDefNamed, DropFlowDef, Start, GetFlow, Running, Poll, GetTask, Update, Decide, Sweep}
+use Rattle.wf_steps.specs.declared.calling.Call.{Call}
+use Rattle.wf_steps.specs.declared.calling.Call.TheVariants.{PutTaskDefs, UpdateTaskDef, TaskDefs, TaskDefNamed, DropTaskDef, AddFlowDef, PutFlowDefs, FlowDefs, FlowDefNamed, DropFlowDef, Start, GetFlow, Running, Poll, GetTask, Update, Decide, Sweep}
 use Rattle.wf_machine.specs.declared.calling.Reply.{Reply}
-use Rattle.wf_machine.specs.declared.calling.Reply.TheVariants.{Nothing}
+use Rattle.wf_machine.specs.declared.calling.Reply.TheVariants.{Nothing, Refused}
+use Rattle.wf_steps.specs.declared.operation.Operation.{Operation}
+use Rattle.wf_steps.specs.declared.operation.Operation.TheVariants.{Terminate, Pause, Resume, Restart, Retry, Rerun, Skip}
+use Rattle.wf_machine.specs.Operators.{Refusals, remove_refusals}
 use Rattle.wf_machine.specs.State.{Attempt, Flow, Kept, State, attempt_numbered}
 use Rattle.wf_machine.specs.Records.{is_kind_at}
 use Rattle.wf_machine.specs.Tasks.{takes_update}
 use Rattle.wf_machine.specs.Naming.{with_template}
 use Rattle.wf_machine.specs.Queues.{next_waiting}
 use Rattle.wf_machine.specs.Registered.{task_def_named, flow_def_at, flow_def_for}
-use Rattle.wf_steps.specs.Calls.{Stepped, stepped, step, entry_of, call_made, put_task_defs, update_task_def, drop_task_def, get_task_def, register, put_flow_defs, drop_flow_def, get_flow_def, get_running, start, start_of, start_with, started, refused, is_full, is_too_long, needs, decide_flow, sweep, get_flow, get_task, task_read, poll, update, update_of, is_wanted, flow_updated, task_updated, settled_with, is_starved}
+use Rattle.wf_steps.specs.Calls.{Stepped, stepped, step, entry_of, call_made, put_task_defs, update_task_def, drop_task_def, get_task_def, register, put_flow_defs, drop_flow_def, get_flow_def, get_running, start, start_of, start_with, started, refused, is_full, is_too_long, needs, decide_flow, sweep, get_flow, get_task, task_read, poll, update, update_of, is_wanted, flow_updated, task_updated, settled_with, is_starved, unless, of_flow, operation_refusals, operation_reply, flow_operated, operate, is_parent_kept, flow_removed, remove}
 use Rattle.wf_machine.specs.Flows.{flow_numbered, flow_of_task}
 
 abbrev IsFed : Stepped → Type 0
@@ -64,6 +67,55 @@ fed-update_of limits place e wanted task outcome None s = refl
 fed-update_of limits place e wanted task outcome (Some k) s =
     fed-if (is_wanted wanted k.flow.number) (flow_updated limits place e task outcome k.flow s) (refused NotFound s)
     (fed-found (attempt_numbered task k.flow.attempts) _ (refused NotFound s) (λ a. fed-task_updated limits place e outcome k.flow a s) refl) refl
+
+-- ---- what operators do
+
+-- none of the refusals is want of memory
+abbrev AreFed : Refusals → Type 0
+AreFed [] = Unit {0}
+AreFed (x ∷ rest) = (is_starved (Refused x.1) ≡ false) × AreFed rest
+
+fed-unless : (refusals : Refusals) (made : Stepped) (s : State) → AreFed refusals → IsFed made → IsFed (unless refusals made s)
+fed-unless [] made s h k = k
+fed-unless ((holds, refusal) ∷ rest) made s h k = by_test holds (fed-unless rest made s h.1 k) where
+  by_test : (b : Bool) → IsFed (unless rest made s) → IsFed (unless ((b, refusal) ∷ rest) made s)
+  by_test true more = h.0
+  by_test false more = more
+
+fed-flow : (number : FlowNo) (made : Flow → Stepped) (s : State) → ((f : Flow) → IsFed (made f)) → IsFed (of_flow number made s)
+fed-flow number made s h = fed-found (flow_numbered number s.flows) (λ (k : Kept). made k.flow) (refused NotFound s) (λ k. h k.flow) refl
+
+operations-fed : (limits : Limits) (next_task : ℕ) (operation : Operation) (f : Flow) → AreFed (operation_refusals limits next_task operation f)
+operations-fed limits next_task (Terminate reason) f = (refl, tt)
+operations-fed limits next_task Pause f = (refl, tt)
+operations-fed limits next_task Resume f = (refl, tt)
+operations-fed limits next_task Restart f = (refl, (refl, (refl, tt)))
+operations-fed limits next_task Retry f = (refl, (refl, (refl, tt)))
+operations-fed limits next_task (Rerun task input) f = (refl, (refl, (refl, tt)))
+operations-fed limits next_task (Skip reference input output) f = (refl, (refl, (refl, (refl, tt))))
+
+reply-fed : (operation : Operation) (number : FlowNo) → is_starved (operation_reply operation number) ≡ false
+reply-fed (Terminate reason) number = refl
+reply-fed Pause number = refl
+reply-fed Resume number = refl
+reply-fed Restart number = refl
+reply-fed Retry number = refl
+reply-fed (Rerun task input) number = refl
+reply-fed (Skip reference input output) number = refl
+
+pub operate-fed : (limits : Limits) (place e : ℕ) (number : FlowNo) (operation : Operation) (s : State)
+    → is_starved (operate limits place e number operation s).reply ≡ false
+unfolding operate
+operate-fed limits place e number operation s =
+    fed-flow number (flow_operated limits place e operation s) s
+    (λ f. fed-unless (operation_refusals limits s.next_task operation f) _ s (operations-fed limits s.next_task operation f) (reply-fed operation f.number))
+
+pub remove-fed : (place e : ℕ) (number : FlowNo) (s : State) → is_starved (remove place e number s).reply ≡ false
+unfolding remove
+remove-fed place e number s =
+    fed-flow number (flow_removed place e s) s (λ f. fed-unless (remove_refusals (is_parent_kept s f) f) _ s (refl, (refl, tt)) refl)
+
+-- ---- all calls
 
 pub never_starved : (limits : Limits) (place e : ℕ) (call : Call) (s : State) → is_starved (call_made limits place e call s).reply ≡ false
 unfolding register start get_flow get_task poll update update_task_def drop_task_def get_task_def get_flow_def drop_flow_def get_running decide_flow sweep

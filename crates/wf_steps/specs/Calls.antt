@@ -15,16 +15,19 @@ use Rattle.wf_wire.specs.declared.limits.Limits.{Limits}
 use Rattle.wf_machine.specs.declared.definition.FlowDef.{FlowDef}
 use Rattle.wf_machine.specs.declared.definition.TaskDef.{TaskDef}
 use Rattle.wf_machine.specs.declared.calling.TaskResult.{TaskResult}
-use Rattle.wf_machine.specs.declared.calling.Call.{Call}
-use Rattle.wf_machine.specs.declared.calling.Call.TheVariants.{PutTaskDefs, UpdateTaskDef, TaskDefs, TaskDefNamed, DropTaskDef, AddFlowDef, PutFlowDefs, FlowDefs, FlowDefNamed, DropFlowDef, Start, GetFlow, Running, Poll, GetTask, Update, Decide, Sweep}
+use Rattle.wf_steps.specs.declared.calling.Call.{Call}
+use Rattle.wf_steps.specs.declared.calling.Call.TheVariants.{PutTaskDefs, UpdateTaskDef, TaskDefs, TaskDefNamed, DropTaskDef, AddFlowDef, PutFlowDefs, FlowDefs, FlowDefNamed, DropFlowDef, Start, GetFlow, Running, Poll, GetTask, Update, Decide, Sweep}
 use Rattle.wf_machine.specs.declared.calling.Reply.{Reply}
 use Rattle.wf_machine.specs.declared.calling.Reply.TheVariants.{Accepted, Id, Json, Nothing, Refused}
-use Rattle.wf_machine.specs.declared.calling.Entry.{Entry}
+use Rattle.wf_steps.specs.declared.calling.Entry.{Entry}
+use Rattle.wf_steps.specs.declared.operation.Operation.{Operation}
+use Rattle.wf_steps.specs.declared.operation.Operation.TheVariants.{Terminate, Pause, Resume, Restart, Retry, Rerun, Skip}
 use Rattle.wf_machine.specs.State.{Attempt, Flow, Kept, State, attempt_numbered, new_flow, with_attempt}
 use Rattle.wf_rules.specs.Sight.{scene_in}
 use Rattle.wf_machine.specs.Naming.{with_template}
 use Rattle.wf_machine.specs.Registered.{is_named, is_version, flow_def_at, flow_def_for, task_def_named, with_task_def, with_task_defs, without_task_def, with_flow_def, with_flow_defs, without_flow_def}
-use Rattle.wf_machine.specs.Flows.{flow_numbered, flow_of_task, new_kept, revised}
+use Rattle.wf_machine.specs.Flows.{flow_numbered, flow_of_task, new_kept, removed, revised}
+use Rattle.wf_machine.specs.Operators.{Refusals, first_refusal, pause_refusals, paused, resume_refusals, resumed, terminate_refusals, terminated, remove_refusals, restart_refusals, restarted, retry_refusals, retried, rerun_refusals, rerun, skip_refusals, skipped}
 use Rattle.wf_rules.specs.Acts.{Turn}
 use Rattle.wf_rules.specs.Rules.{choose, decide, is_running}
 use Rattle.wf_rules.specs.Plans.{turn_at}
@@ -257,6 +260,86 @@ update_of limits place e wanted task outcome (Some k) s =
 
 unfoldable pub update : Limits → ℕ → ℕ → Option FlowNo → TaskNo → TaskResult → State → Stepped
 update limits place e wanted task outcome s = update_of limits place e wanted task outcome (flow_of_task task s.flows) s
+
+-- ---- what operators do
+
+abbrev pub or_refused : Option Refusal → Stepped → State → Stepped
+or_refused None made s = made
+or_refused (Some refusal) made s = refused refusal s
+
+-- the step is made where no refusal holds
+abbrev pub unless : Refusals → Stepped → State → Stepped
+unless refusals made s = or_refused (first_refusal refusals) made s
+
+-- with the kept flow of that number
+abbrev pub of_flow : FlowNo → (Flow → Stepped) → State → Stepped
+of_flow number made s = option_map_or (λ (k : Kept). made k.flow) (flow_numbered number s.flows) (refused NotFound s)
+
+-- by what an operation is refused; an attempt that it adds would take the next number
+abbrev pub operation_refusals : Limits → ℕ → Operation → Flow → Refusals
+operation_refusals limits next_task (Terminate reason) f = terminate_refusals f
+operation_refusals limits next_task Pause f = pause_refusals f
+operation_refusals limits next_task Resume f = resume_refusals f
+operation_refusals limits next_task Restart f = restart_refusals f
+operation_refusals limits next_task Retry f = retry_refusals f
+operation_refusals limits next_task (Rerun task input) f = rerun_refusals task f
+operation_refusals limits next_task (Skip reference input output) f = skip_refusals limits reference next_task f
+
+-- what it makes of the flow at the moment e
+abbrev pub operated : ℕ → ℕ → Operation → Flow → Flow
+operated e next_task (Terminate reason) f = terminated e reason f
+operated e next_task Pause f = paused f
+operated e next_task Resume f = resumed f
+operated e next_task Restart f = restarted e f
+operated e next_task Retry f = retried e f
+operated e next_task (Rerun task input) f = rerun e task input f
+operated e next_task (Skip reference input output) f = skipped e reference input output (record { 0 = next_task }) f
+
+-- the number of the next attempt, after it
+abbrev pub next_after : Operation → ℕ → ℕ
+next_after (Skip reference input output) next_task = next_task + 1
+next_after _ next_task = next_task
+
+-- nothing is to be decided of a flow that is ended or paused
+abbrev pub stops_flow : Operation → Bool
+stops_flow (Terminate reason) = true
+stops_flow Pause = true
+stops_flow _ = false
+
+-- a rerun answers the flow's id
+abbrev pub operation_reply : Operation → FlowNo → Reply
+operation_reply (Rerun task input) number = Id kind.Flow number.0
+operation_reply _ number = Accepted
+
+-- the flow that was so before is so now, and isn't decided
+abbrev pub with_undecided : ℕ → ℕ → Flow → Flow → State → State
+with_undecided place e before now s = record (with_flow place before now s) { last = e }
+
+abbrev pub with_operated : Limits → ℕ → ℕ → Operation → Flow → State → State
+with_operated limits place e operation f s =
+    let now = operated e s.next_task operation f in
+    if stops_flow operation then with_undecided place e f now s
+    else with_decided limits place e f now (record s { next_task = next_after operation s.next_task })
+
+abbrev pub flow_operated : Limits → ℕ → ℕ → Operation → State → Flow → Stepped
+flow_operated limits place e operation s f =
+    unless (operation_refusals limits s.next_task operation f)
+    (stepped (with_operated limits place e operation f s) (operation_reply operation f.number))
+    s
+
+unfoldable pub operate : Limits → ℕ → ℕ → FlowNo → Operation → State → Stepped
+operate limits place e number operation s = of_flow number (flow_operated limits place e operation s) s
+
+abbrev pub is_parent_kept : State → Flow → Bool
+is_parent_kept s f = option_map_or (λ (parent : FlowNo × TaskNo). is_some (flow_numbered parent.0 s.flows)) f.parent false
+
+-- the flow goes with its attempts
+abbrev pub flow_removed : ℕ → ℕ → State → Flow → Stepped
+flow_removed place e s f =
+    unless (remove_refusals (is_parent_kept s f) f) (stepped (record s { last = e; flows = removed place f s.flows }) Accepted) s
+
+unfoldable pub remove : ℕ → ℕ → FlowNo → State → Stepped
+remove place e number s = of_flow number (flow_removed place e s) s
 
 -- ---- steps
 

@@ -2,7 +2,7 @@
 use Rattle.std.specs.Prelude.{ℕ, ◌+◌, List, [], ◌∷◌, map}
 use Rattle.wf_wire.specs.declared.limits.Limits.{Limits}
 use Rattle.wf_machine.specs.declared.calling.Reply.{Reply}
-use Rattle.wf_machine.specs.declared.calling.Entry.{Entry}
+use Rattle.wf_steps.specs.declared.calling.Entry.{Entry}
 use Rattle.wf_machine.specs.State.{Kept, State}
 use Rattle.wf_steps.specs.Calls.{step}
 

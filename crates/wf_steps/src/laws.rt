@@ -2,8 +2,8 @@
 
 ghost use Rattle.std.specs.Prelude.{◌≡◌, ℕ, false};
 ghost use Rattle.wf_machine.specs.State.{State};
-ghost use Rattle.wf_machine.specs.declared.calling.Call.{Call};
-ghost use Rattle.wf_machine.specs.declared.calling.Entry.{Entry};
+ghost use Rattle.wf_steps.specs.declared.calling.Call.{Call};
+ghost use Rattle.wf_steps.specs.declared.calling.Entry.{Entry};
 ghost use Rattle.wf_steps.specs.Calls.{call_made, is_starved, step, stepped};
 ghost use Rattle.wf_steps.specs.History.{stored};
 ghost use Rattle.wf_wire.specs.declared.limits.Limits.{Limits};
