@@ -3,7 +3,7 @@
 
     python3 tools/rows.py [--program PATH] [FILE ..]
 
-FILE: files of rows/, or docs/WORKFLOWS.md (else all of them). PATH: the program (else crates/conductor/out/conductor, which the gate builds).
+FILE: files of rows/, or docs/WORKFLOWS.md or docs/OPERATING.md (else all of them). PATH: the program (else crates/conductor/out/conductor, which the gate builds).
 The last line is `rows: N passed, M failed`, of scripts and documents; the status is 0 where none failed.
 
 A file NAME.script has runs of `conductor batch`, each from a new store:
@@ -46,7 +46,7 @@ from dataclasses import dataclass, field
 
 ROOT = pathlib.Path(__file__).resolve().parent.parent
 ROWS = ROOT / "rows"
-WORKFLOWS = ROOT / "docs" / "WORKFLOWS.md"
+GUIDES = [ROOT / "docs" / "WORKFLOWS.md", ROOT / "docs" / "OPERATING.md"]
 PROGRAM = ROOT / "crates" / "conductor" / "out" / "conductor"
 SECONDS = 120
 
@@ -133,6 +133,14 @@ REFUSALS = {
         for line in """\
 NOT_FOUND 404 no such thing
 EXISTS 409 already registered
+NOT_RUNNING 409 the workflow is not running
+NOT_PAUSED 409 the workflow is not paused
+NOT_TERMINAL 409 the workflow has not ended
+WAS_COMPLETED 409 the workflow was completed
+NOT_RESTARTABLE 409 the workflow is not restartable
+IS_CHILD 409 the workflow is a child
+NOT_RERUNNABLE 409 no rerun from this task
+ALREADY_SCHEDULED 409 the task was scheduled
 NOT_UPDATABLE 409 the task takes no update
 STORE_FULL 409 the store is full
 DOCUMENT_LIMIT 409 the document is too large
@@ -557,7 +565,7 @@ def asked():
         program, words = pathlib.Path(words[1]), words[2:]
     if any(word.startswith("-") for word in words):
         sys.exit(__doc__)
-    files = [pathlib.Path(word) for word in words] or [*sorted([*ROWS.glob("*.script"), *ROWS.glob("*.check")]), WORKFLOWS]
+    files = [pathlib.Path(word) for word in words] or [*sorted([*ROWS.glob("*.script"), *ROWS.glob("*.check")]), *GUIDES]
     return program, files
 
 

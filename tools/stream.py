@@ -100,6 +100,24 @@ class Maker:
     def flow(self):
         return f"00000001-0100-8000-8000-{self.random.randrange(1, 20):012x}"
 
+    def operation(self):
+        """A request of an operator."""
+        flow = f"/api/workflow/{self.flow()}"
+        return self.one_of(
+            [
+                (f"PUT {flow}/pause", None),
+                (f"PUT {flow}/resume", None),
+                (f"PUT {flow}/resume", None),
+                (f"DELETE {flow}?reason=stop", None),
+                (f"POST {flow}/restart", None),
+                (f"POST {flow}/retry", None),
+                (f"POST {flow}/rerun", {"reRunFromTaskId": self.task()}),
+                (f"POST {flow}/rerun", {"reRunFromTaskId": self.task(), "workflowInput": {"n": self.value()}}),
+                (f"PUT {flow}/skiptask/r{self.random.randrange(1, 5)}", {"taskOutput": {"k": self.value()}}),
+                (f"DELETE {flow}/remove", None),
+            ]
+        )
+
     def request(self):
         result = {"taskId": self.task(), "status": self.one_of(RESULTS), "outputData": {"k": self.value()}}
         if self.random.random() < 0.2:
@@ -122,7 +140,9 @@ class Maker:
                 (f"GET /api/tasks/{self.task()}", None),
                 (f"GET /api/workflow/running/{self.one_of(FLOWS)}", None),
                 (f"DELETE /api/metadata/workflow/{self.one_of(FLOWS)}/1", None),
-                (f"DELETE /api/workflow/{self.flow()}", None),
+                self.operation(),
+                self.operation(),
+                self.operation(),
                 ("PATCH /api/tasks", None),
             ]
         )

@@ -32,8 +32,8 @@ const STANDARD: Small = Small {
 
 /// Limits, and what is asked and answered under them. A request has its method, its target, its moment behind `@` and perhaps
 /// a body; it is read under the standard limits. The line behind it is `= `, the status of the reply and its body.
-const RUNS: [(Small, &str); 18] = [
-    // A full store takes no start, and a flow that has ended is kept.
+const RUNS: [(Small, &str); 19] = [
+    // A full store takes no start, and a flow that has ended is kept until it is removed.
     (
         Small {
             flows: 1,
@@ -58,6 +58,10 @@ GET /api/workflow/00000001-0100-8000-8000-000000000002 @9000
 = 404 {"code":"NOT_FOUND","message":"no such thing","status":404}
 POST /api/metadata/taskdefs @3000 [{"name":"pack"}]
 = 200
+DELETE /api/workflow/00000001-0100-8000-8000-000000000001/remove @4000
+= 200
+POST /api/workflow/one @5000 {}
+= 200 00000001-0100-8000-8000-000000000002
 "#,
     ),
     // No flow at all.
@@ -136,7 +140,7 @@ POST /api/workflow/one @0 {"a":"\u0001"}
 = 409 {"code":"DOCUMENT_LIMIT","message":"the document is too large","status":409}
 "#,
     ),
-    // A second attempt ends the flow at the limit of attempts.
+    // A second attempt ends the flow at the limit of attempts, and no node is skipped there.
     (
         Small {
             attempts: 1,
@@ -151,6 +155,8 @@ POST /api/workflow/order @1000 {}
 = 200 00000001-0100-8000-8000-000000000001
 GET /api/tasks/poll/pick @2000
 = 200 {"callbackAfterSeconds":0,"endTime":0,"inputData":{},"iteration":0,"outputData":{},"pollCount":1,"reasonForIncompletion":"","referenceTaskName":"a","retryCount":0,"scheduledTime":1000,"startTime":2000,"status":"IN_PROGRESS","taskDefName":"pick","taskId":"00000001-0200-8000-8000-000000000001","taskType":"pick","updateTime":2000,"workerId":"","workflowInstanceId":"00000001-0100-8000-8000-000000000001"}
+PUT /api/workflow/00000001-0100-8000-8000-000000000001/skiptask/b @2000
+= 409 {"code":"ATTEMPT_LIMIT","message":"too many attempts","status":409}
 POST /api/tasks @3000 {"workflowInstanceId":"00000001-0100-8000-8000-000000000001","taskId":"00000001-0200-8000-8000-000000000001","status":"COMPLETED","outputData":{"box":1}}
 = 200 00000001-0200-8000-8000-000000000001
 GET /api/workflow/00000001-0100-8000-8000-000000000001 @3000
@@ -197,6 +203,29 @@ POST /api/workflow/set @1000 {}
 = 200 00000001-0100-8000-8000-000000000001
 GET /api/workflow/00000001-0100-8000-8000-000000000001 @2000
 = 200 {"correlationId":"","createTime":1000,"endTime":1000,"input":{},"output":{},"reasonForIncompletion":"attempt limit","startTime":1000,"status":"FAILED","tasks":[{"callbackAfterSeconds":0,"endTime":1000,"inputData":{"x":1},"iteration":0,"outputData":{},"pollCount":0,"reasonForIncompletion":"","referenceTaskName":"a","retryCount":0,"scheduledTime":1000,"startTime":1000,"status":"COMPLETED","taskDefName":"s","taskId":"00000001-0200-8000-8000-000000000001","taskType":"SET_VARIABLE","updateTime":1000,"workerId":"","workflowInstanceId":"00000001-0100-8000-8000-000000000001"},{"callbackAfterSeconds":0,"endTime":1000,"inputData":{"x":2},"iteration":0,"outputData":{},"pollCount":0,"reasonForIncompletion":"","referenceTaskName":"b","retryCount":0,"scheduledTime":1000,"startTime":1000,"status":"COMPLETED","taskDefName":"s","taskId":"00000001-0200-8000-8000-000000000002","taskType":"SET_VARIABLE","updateTime":1000,"workerId":"","workflowInstanceId":"00000001-0100-8000-8000-000000000001"}],"variables":{"x":2},"workflowId":"00000001-0100-8000-8000-000000000001","workflowName":"set","workflowVersion":1}
+PUT /api/workflow/00000001-0100-8000-8000-000000000001/skiptask/c @2000
+= 409 {"code":"NOT_RUNNING","message":"the workflow is not running","status":409}
+"#,
+    ),
+    // An attempt that a retry leaves behind counts.
+    (
+        Small {
+            attempts: 1,
+            ..STANDARD
+        },
+        r#"
+POST /api/metadata/taskdefs @0 [{"name":"pick","retryCount":0}]
+= 200
+POST /api/metadata/workflow @0 {"name":"one","tasks":[{"name":"pick","taskReferenceName":"a"}]}
+= 200
+POST /api/workflow/one @0 {}
+= 200 00000001-0100-8000-8000-000000000001
+POST /api/tasks @1000 {"taskId":"00000001-0200-8000-8000-000000000001","status":"FAILED","reasonForIncompletion":"torn"}
+= 200 00000001-0200-8000-8000-000000000001
+POST /api/workflow/00000001-0100-8000-8000-000000000001/retry @2000
+= 200
+GET /api/workflow/00000001-0100-8000-8000-000000000001 @2000
+= 200 {"correlationId":"","createTime":0,"endTime":2000,"input":{},"output":{},"reasonForIncompletion":"attempt limit","startTime":2000,"status":"FAILED","tasks":[],"variables":{},"workflowId":"00000001-0100-8000-8000-000000000001","workflowName":"one","workflowVersion":1}
 "#,
     ),
     // No attempt at all.

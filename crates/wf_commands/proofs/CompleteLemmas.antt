@@ -1,15 +1,14 @@
 -- Where nothing fails and the input ends after a whole message, all that is served was answered.
-use Rattle.std.proofs.Common.{◌≡◌, ◌≢◌, ◌⊎◌, inl, inr, ℕ, List, ◌++◌, Option, refl, sym, ap, ◌∙◌}
+use Rattle.std.proofs.Common.{◌≡◌, ◌≢◌, ◌⊎◌, inl, inr, ℕ, List, ◌++◌, Option, refl}
 use Rattle.wf_wire.specs.declared.limits.Limits.{Limits}
 use Rattle.wf_wire.specs.declared.inbox.Next.{Next}
 use Rattle.wf_wire.specs.declared.inbox.Next.TheVariants as next
 use Rattle.wf_wire.specs.Items.{IsEnd, IsItems, Leads}
 use Rattle.wf_wire.specs.Request.{Request}
-use Rattle.wf_rest.specs.Serving.{Answered, IsLegal, requests, served}
+use Rattle.wf_rest.specs.Serving.{Answered, IsLegal, requests}
 use Rattle.wf_commands.specs.declared.status.Status.{Status}
 use Rattle.wf_commands.specs.declared.status.Status.TheVariants.{Done, NoMemory, Usage, ReadFault, WriteFault, BadFrame, Cut, LongInput, TooLarge, Invalid}
-use Rattle.wf_commands.specs.Runs.{IsClosed, IsComplete, IsOpen, IsOutcome, IsRun, first_state}
-use Rattle.wf_commands.proofs.TurnLemmas.{served-closed, served-open}
+use Rattle.wf_commands.specs.Runs.{AreServed, IsClosed, IsComplete, IsOpen, IsOutcome, IsRun, first_state}
 
 -- an input has one list of messages and one end
 abbrev pub AreUnique : Type 0
@@ -27,13 +26,11 @@ module _ (unique : AreUnique) (first : AreFirst) (limits : Limits) (moment : ℕ
   ends : (end : Next) → IsEnd limits o p end → next.End ≡ end
   ends end is = (unique limits input messages (requests answered) next.End end items (o, p, (leads, is))).1
 
-  all_served : IsClosed answered ⊎ (IsOpen answered × IsEnd limits o p next.End) → requests answered ≡ served messages
+  all_served : IsClosed limits answered ⊎ (IsOpen limits answered × IsEnd limits o p next.End) → AreServed limits answered messages
   all_served (inl closed) =
       let more = first limits input p (requests answered) messages o next.End items leads in
-      sym (ap served more.1 ∙ served-closed (requests answered) more.0 closed.0 closed.1)
-  all_served (inr x) =
-      let same = (unique limits input messages (requests answered) next.End next.End items (o, p, (leads, x.1))).0 in
-      sym (ap served same ∙ served-open (requests answered) x.0)
+      inl (more.0, (more.1, closed))
+  all_served (inr x) = inr ((unique limits input messages (requests answered) next.End next.End items (o, p, (leads, x.1))).0, x.0)
 
   complete_at : (status : Status) → status ≢ ReadFault → status ≢ WriteFault → IsOutcome limits moment answered o p left old new status
       → IsComplete limits moment messages old new status

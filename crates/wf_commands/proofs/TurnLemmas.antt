@@ -1,23 +1,26 @@
 -- Turn by turn: what was answered so far, and what one more turn makes of it.
-use Rattle.std.proofs.Common.{◌≡◌, inl, inr, ℕ, Bool, true, false, ◌||◌, if◌then◌else◌, List, [], ◌∷◌, ◌++◌, Option, Some, refl, sym, ap, subst, ◌∙◌, append_assoc}
+use Rattle.std.proofs.Common.{◌≡◌, inl, inr, ℕ, Bool, true, false, ◌&&◌, ◌||◌, List, [], ◌∷◌, ◌++◌, Option, None, Some, Result, Ok, Err, refl, sym, ap, subst, ◌∙◌, append_assoc}
 use Rattle.std.proofs.lemmas.List.{append-nil, map-append}
 use Rattle.std.proofs.lemmas.List.Folds.{list_any-append}
+use Rattle.std.specs.Result.{is_err}
+use Rattle.wf_wire.specs.declared.errors.Failed.{Failed}
 use Rattle.wf_wire.specs.declared.limits.Limits.{Limits}
 use Rattle.wf_wire.specs.declared.inbox.Next.{Next}
 use Rattle.wf_wire.specs.declared.inbox.Next.TheVariants as next
 use Rattle.wf_wire.specs.Items.{IsMessage, IsStop, IsNext, Leads, Coming}
 use Rattle.wf_wire.specs.Request.{Request, closes}
+use Rattle.wf_wire.specs.Stream.{Writes}
 use Rattle.wf_machine.specs.declared.calling.Reply.{Reply}
 use Rattle.wf_machine.specs.State.{State}
 use Rattle.wf_steps.specs.History.{stored}
 use Rattle.wf_rest.specs.Moments.{moment_at}
-use Rattle.wf_rest.specs.Serving.{call_of, Answered, IsAsked, ends_closed, moment_after, requests, served, wire}
+use Rattle.wf_rest.specs.Serving.{call_of, Answered, IsAsked, is_last, is_shutdown, moment_after, requests, wire}
 use Rattle.wf_rest.proofs.ServingLemmas.{legal_more, moment-more, state_more, wire-more}
 use Rattle.wf_commands.specs.declared.status.Status.{Status}
 use Rattle.wf_commands.specs.declared.status.Status.TheVariants.{Done, NoMemory, Usage, ReadFault, WriteFault, BadFrame, Cut, LongInput, TooLarge, Invalid}
 use Rattle.wf_commands.specs.declared.batch.Turn.{Turn}
 use Rattle.wf_commands.specs.declared.batch.Turn.TheVariants.{Goes, Stops}
-use Rattle.wf_commands.specs.Runs.{ComesNext, IsOutcome, IsRun, RunsOver, end_bytes, first_mark, first_state}
+use Rattle.wf_commands.specs.Runs.{ComesNext, IsOpen, IsOutcome, IsRun, RunsOver, end_bytes, first_mark, first_state}
 use Rattle.wf_commands.specs.Written.{Appends, AppendsPart}
 use Rattle.wf_commands.specs.Turns.{IsAnswer, IsAnswered, IsRefused, IsStopped, IsTurn, Stands, StandsOver}
 
@@ -33,6 +36,20 @@ pub appends_part : (old mid new : Option (List ℕ)) (first bytes : List ℕ) �
 appends_part old mid new first bytes whole part taken e =
     let r = part (taken ++ first) (whole taken e) in
     (r.0, r.1, (r.2.0, r.2.1, r.2.2 ∙ ap Some (append_assoc taken first r.0)))
+
+pub part_written : {A : Type 0} (old new : Option (List ℕ)) (bytes : List ℕ) (result : Result A Failed) → is_err result ≡ true → Writes old new bytes result → AppendsPart old new [] bytes
+part_written old new bytes (Ok a) failed written = cc
+part_written old new bytes (Err e) failed written = written
+
+-- ---- answers
+
+-- a request that is no call ends a run where it closes, and not else
+pub unasked_last : (limits : Limits) (m : Request) → is_last limits first_mark (record { request = m; reply = None }) ≡ closes m
+unasked_last limits m = by_tests (closes m) (is_shutdown (call_of limits first_mark m)) where
+  by_tests : (b c : Bool) → (b || (c && false)) ≡ b
+  by_tests true c = refl
+  by_tests false true = refl
+  by_tests false false = refl
 
 -- ---- what comes next
 
@@ -60,12 +77,6 @@ stop_of_next limits o p left next.LongInput o' p' old new status none is = is
 stop_of_next limits o p left next.ReadFault o' p' old new status none is = is
 stop_of_next limits o p left next.NoMemory o' p' old new status none is = is
 
-true_is_not_false : true ≡ false → ⊥
-true_is_not_false e = cc
-
-cons_tail : {A : Type 0} {x y : A} {xs ys : List A} → x ∷ xs ≡ y ∷ ys → xs ≡ ys
-cons_tail e = cc
-
 -- ---- lists of answers
 
 -- the messages lead one message further
@@ -77,36 +88,9 @@ leads_more limits o o1 o2 p q r (n ∷ ns) m so is = (so.0, so.1, (so.2.0, leads
 requests-more : (answered : List Answered) (a : Answered) → requests (answered ++ a ∷ []) ≡ requests answered ++ a.request ∷ []
 requests-more answered a = map-append (λ (x : Answered). x.request) answered (a ∷ [])
 
-closed-more : (ms : List Request) (m : Request) → ends_closed ms ≡ false → ends_closed (ms ++ m ∷ []) ≡ (closes m || false)
-closed-more ms m open' = list_any-append closes ms (m ∷ []) ∙ ap (λ b. b || (closes m || false)) open'
-
-or_false : (a b : Bool) → (a || b) ≡ false → (a ≡ false) × (b ≡ false)
-or_false true b e = absurd (true_is_not_false e)
-or_false false b e = (refl, e)
-
--- requests of which the last alone closes
-served-last : (ms : List Request) (m : Request) → ends_closed ms ≡ false → closes m ≡ true → served (ms ++ m ∷ []) ≡ ms ++ m ∷ []
-served-last [] m open' closing = ap (λ b. if b then m ∷ [] else m ∷ []) closing
-served-last (n ∷ ns) m open' closing =
-    let both = or_false (closes n) (ends_closed ns) open' in
-    ap (λ b. if b then n ∷ [] else n ∷ served (ns ++ m ∷ [])) both.0 ∙ ap (λ xs. n ∷ xs) (served-last ns m both.1 closing)
-
--- where no request closes, all are served
-pub served-open : (ms : List Request) → ends_closed ms ≡ false → served ms ≡ ms
-served-open [] open' = refl
-served-open (m ∷ ms) open' =
-    let both = or_false (closes m) (ends_closed ms) open' in
-    ap (λ b. if b then m ∷ [] else m ∷ served ms) both.0 ∙ ap (λ xs. m ∷ xs) (served-open ms both.1)
-
-closed_at : (m : Request) (ms rest : List Request) (b : Bool) → closes m ≡ b → (b || ends_closed ms) ≡ true → (if b then m ∷ [] else m ∷ served ms) ≡ m ∷ ms
-    → (ends_closed ms ≡ true → served ms ≡ ms → served (ms ++ rest) ≡ ms) → (if b then m ∷ [] else m ∷ served (ms ++ rest)) ≡ m ∷ ms
-closed_at m ms rest true is closed all later = all
-closed_at m ms rest false is closed all later = ap (λ xs. m ∷ xs) (later closed (cons_tail all))
-
--- no request behind one that closes is served
-pub served-closed : (ms rest : List Request) → ends_closed ms ≡ true → served ms ≡ ms → served (ms ++ rest) ≡ ms
-served-closed [] rest closed all = absurd (true_is_not_false (sym closed))
-served-closed (m ∷ ms) rest closed all = closed_at m ms rest (closes m) refl closed all (served-closed ms rest)
+open-more : (limits : Limits) (answered : List Answered) (a : Answered) → IsOpen limits answered → is_last limits first_mark a ≡ false → IsOpen limits (answered ++ a ∷ [])
+open-more limits answered a unclosed goes =
+    list_any-append (is_last limits first_mark) answered (a ∷ []) ∙ ap (λ b. b || (is_last limits first_mark a || false)) unclosed ∙ ap (λ b. b || false) goes
 
 -- ---- one more answer
 
@@ -126,50 +110,48 @@ module _ (limits : Limits) (moment : ℕ) (input : List ℕ) (old : Option (List
         → IsAsked limits (moment_at (moment_after moment answered) m) s s' (call_of limits first_mark m) reply
     asked_here s' reply asked = subst (λ n. IsAsked limits (moment_at n m) s s' (call_of limits first_mark m) reply) (sym stands.in_force) asked
 
-    -- the request was asked, and doesn't close
-    pub stands_more : (s' : State) (bytes : List ℕ) (new : Option (List ℕ)) → closes m ≡ false → IsAnswer limits (moment_at now m) s s' m bytes → Appends mid new bytes
+    -- the request was asked, and its answer isn't the last
+    pub stands_more : (s' : State) (bytes : List ℕ) (new : Option (List ℕ)) → IsAnswer limits (moment_at now m) s s' m false bytes → Appends mid new bytes
         → (more : List Answered) × Stands limits moment input old more o' p' s' (moment_at now m) new
-    stands_more s' bytes new open' asked wrote =
-        let a : Answered = record { request = m; reply = asked.0 } in (
+    stands_more s' bytes new answered_so wrote =
+        let reply = answered_so.reply in
+        let a : Answered = record { request = m; reply = reply } in (
           answered ++ a ∷ [],
           record {
-            leads = leads_here asked.0;
-            unclosed = ap ends_closed (requests-more answered a) ∙ closed-more (requests answered) m stands.unclosed ∙ ap (λ b. b || false) open';
-            legal = legal_more limits first_state moment s s' answered m asked.0 stands.legal stands.state (asked_here s' asked.0 asked.1.0);
-            state = state_more limits first_state moment s s' answered m asked.0 stands.legal stands.state (asked_here s' asked.0 asked.1.0);
+            leads = leads_here reply;
+            unclosed = open-more limits answered a stands.unclosed answered_so.ends;
+            legal = legal_more limits first_state moment s s' answered m reply stands.legal stands.state (asked_here s' reply answered_so.asked);
+            state = state_more limits first_state moment s s' answered m reply stands.legal stands.state (asked_here s' reply answered_so.asked);
             in_force = moment-more moment answered a ∙ ap (λ n. moment_at n m) stands.in_force;
             wrote = λ taken e. appends_more old mid new _ _ stands.wrote wrote taken e
-                ∙ ap (λ b. Some (taken ++ b)) (ap (λ b. wire limits first_mark answered ++ b) asked.1.1 ∙ sym (wire-more limits first_mark answered m asked.0));
+                ∙ ap (λ b. Some (taken ++ b)) (ap (λ b. wire limits first_mark answered ++ b) answered_so.are ∙ sym (wire-more limits first_mark answered m answered_so.reply));
           },
         )
 
-    -- the request was asked, and closes
-    run_closed : (s' : State) (bytes left : List ℕ) (new : Option (List ℕ)) → closes m ≡ true → IsAnswer limits (moment_at now m) s s' m bytes → Appends mid new bytes
+    -- the request was asked, and its answer is the last
+    run_closed : (s' : State) (bytes left : List ℕ) (new : Option (List ℕ)) → IsAnswer limits (moment_at now m) s s' m true bytes → Appends mid new bytes
         → IsRun limits moment input left old new Done
-    run_closed s' bytes left new closing asked wrote =
-        let a : Answered = record { request = m; reply = asked.0 } in
-        let last = requests-more answered a in (
+    run_closed s' bytes left new answered_so wrote =
+        let reply = answered_so.reply in
+        let a : Answered = record { request = m; reply = reply } in (
           answered ++ a ∷ [],
           o',
           p',
           (
-            leads_here asked.0,
-            legal_more limits first_state moment s s' answered m asked.0 stands.legal stands.state (asked_here s' asked.0 asked.1.0),
+            leads_here reply,
+            legal_more limits first_state moment s s' answered m reply stands.legal stands.state (asked_here s' reply answered_so.asked),
             (
               (λ taken e. appends_more old mid new _ _ stands.wrote wrote taken e
-                  ∙ ap (λ b. Some (taken ++ b)) (ap (λ b. wire limits first_mark answered ++ b) asked.1.1 ∙ sym (wire-more limits first_mark answered m asked.0))),
-              inl (
-                ap ends_closed last ∙ closed-more (requests answered) m stands.unclosed ∙ ap (λ b. b || false) closing,
-                ap served last ∙ served-last (requests answered) m stands.unclosed closing ∙ sym last,
-              ),
+                  ∙ ap (λ b. Some (taken ++ b)) (ap (λ b. wire limits first_mark answered ++ b) answered_so.are ∙ sym (wire-more limits first_mark answered m answered_so.reply))),
+              inl (record { before = answered; end = a; are = refl; unclosed = stands.unclosed; closes = answered_so.ends }),
             ),
           ),
         )
 
     -- of its answer a part was written
-    run_unwritten : (s' : State) (bytes left : List ℕ) (new : Option (List ℕ)) → IsAnswer limits (moment_at now m) s s' m bytes → AppendsPart mid new [] bytes
+    run_unwritten : (s' : State) (bytes left : List ℕ) (new : Option (List ℕ)) (last : Bool) → IsAnswer limits (moment_at now m) s s' m last bytes → AppendsPart mid new [] bytes
         → IsRun limits moment input left old new WriteFault
-    run_unwritten s' bytes left new asked part = (
+    run_unwritten s' bytes left new last answered_so part = (
       answered,
       o,
       p,
@@ -181,7 +163,7 @@ module _ (limits : Limits) (moment : ℕ) (input : List ℕ) (old : Option (List
           (
             bytes,
             (
-              inl (m, asked.0, o', p', (is, legal_more limits first_state moment s s' answered m asked.0 stands.legal stands.state (asked_here s' asked.0 asked.1.0), asked.1.1)),
+              inl (m, answered_so.reply, o', p', (is, legal_more limits first_state moment s s' answered m answered_so.reply stands.legal stands.state (asked_here s' answered_so.reply answered_so.asked), answered_so.are)),
               appends_part old mid new _ bytes stands.wrote part,
             ),
           ),
@@ -191,8 +173,8 @@ module _ (limits : Limits) (moment : ℕ) (input : List ℕ) (old : Option (List
 
     run_answered : (s' : State) (left : List ℕ) (new : Option (List ℕ)) (status : Status) → IsAnswered limits (moment_at now m) s s' m mid new (Stops status)
         → IsRun limits moment input left old new status
-    run_answered s' left new Done x = run_closed s' x.1.0 left new x.0 x.1.1.0 x.1.1.1
-    run_answered s' left new WriteFault x = run_unwritten s' x.0 left new x.1.0 x.1.1
+    run_answered s' left new Done x = run_closed s' x.0 left new x.1.0 x.1.1
+    run_answered s' left new WriteFault x = run_unwritten s' x.0 left new x.1.0 x.1.1.0 x.1.1.1
     run_answered s' left new NoMemory x = (answered, o, p, (stands.leads, stands.legal, (stands.unclosed, appends_nothing old mid new _ stands.wrote x)))
     run_answered s' left new Usage x = absurd x
     run_answered s' left new ReadFault x = absurd x
@@ -281,7 +263,7 @@ module _ (limits : Limits) (moment : ℕ) (told : Option (List ℕ)) (old : Opti
           (
             y.1,
             subst (λ n. (more : List Answered) × Stands limits moment input old more o' (held' ++ y.0) s' n new) (sym t.1.1.0)
-                (stands_more limits moment input old x.1.1.0 o (held ++ x.0) s now mid x.1.1.1 t.0 o' (held' ++ y.0) t.1.0 s' t.1.1.1.1.0 new t.1.1.1.0 t.1.1.1.1.1.0 t.1.1.1.1.1.1),
+                (stands_more limits moment input old x.1.1.0 o (held ++ x.0) s now mid x.1.1.1 t.0 o' (held' ++ y.0) t.1.0 s' t.1.1.1.0 new t.1.1.1.1.0 t.1.1.1.1.1),
           ),
         )
 

@@ -1,5 +1,6 @@
 -- What a run over an input of requests leaves: the bytes that it wrote, and the status that it ended with.
 use Rattle.std.specs.Prelude.{◌≡◌, ◌⊎◌, ℕ, min, true, false, List, [], ◌∷◌, ◌++◌, Option, Some}
+use Rattle.std.specs.List.{list_any}
 use Rattle.wf_wire.specs.declared.limits.Limits.{Limits}
 use Rattle.wf_wire.specs.declared.inbox.Next.{Next}
 use Rattle.wf_wire.specs.declared.inbox.Next.TheVariants as next
@@ -10,7 +11,7 @@ use Rattle.wf_rest.specs.declared.faulting.HttpFault.TheVariants as fault
 use Rattle.wf_rest.specs.Moments.{last_moment}
 use Rattle.wf_machine.specs.State.{State, new_state}
 use Rattle.wf_rest.specs.Responses.{printed_fault}
-use Rattle.wf_rest.specs.Serving.{Answered, IsLegal, answer_bytes, ends_closed, requests, served, wire}
+use Rattle.wf_rest.specs.Serving.{Answered, IsLegal, answer_bytes, is_last, requests, wire}
 use Rattle.wf_commands.specs.declared.status.Status.{Status}
 use Rattle.wf_commands.specs.declared.status.Status.TheVariants.{Done, NoMemory, Usage, ReadFault, WriteFault, BadFrame, Cut, LongInput, TooLarge, Invalid}
 use Rattle.wf_commands.specs.Standard.{IsStandard}
@@ -47,13 +48,17 @@ first_mark = 1
 abbrev pub first_state : State
 first_state = new_state first_mark
 
--- no request so far closes
-abbrev pub IsOpen : List Answered → Type 0
-IsOpen answered = ends_closed (requests answered) ≡ false
+-- no answer so far is the last one of a run
+abbrev pub IsOpen : Limits → List Answered → Type 0
+IsOpen limits answered = list_any (is_last limits first_mark) answered ≡ false
 
--- the last request, and no other, closes
-abbrev pub IsClosed : List Answered → Type 0
-IsClosed answered = (ends_closed (requests answered) ≡ true) × (served (requests answered) ≡ requests answered)
+-- the answer at the end, and none before it, is the last one of a run
+pub record IsClosed (limits : Limits) (answered : List Answered) : Type 0 where
+  pub before : List Answered
+  pub end : Answered
+  pub are : answered ≡ before ++ end ∷ []
+  pub unclosed : IsOpen limits before
+  pub closes : is_last limits first_mark end ≡ true
 
 -- these bytes are those of the next answer: to a request that stands next in the input, or to the input's end
 abbrev pub ComesNext : Limits → ℕ → List Answered → ℕ → List ℕ → List ℕ → Type 0
@@ -67,25 +72,25 @@ ComesNext limits moment answered o p bytes =
 -- took, where the run ended with this status
 abbrev pub IsOutcome : Limits → ℕ → List Answered → ℕ → List ℕ → List ℕ → Option (List ℕ) → Option (List ℕ) → Status → Type 0
 IsOutcome limits moment answered o p left old new Done =
-    Appends old new (wire limits first_mark answered) × (IsClosed answered ⊎ (IsOpen answered × IsEnd limits o p next.End))
+    Appends old new (wire limits first_mark answered) × (IsClosed limits answered ⊎ (IsOpen limits answered × IsEnd limits o p next.End))
 IsOutcome limits moment answered o p left old new (Cut a) =
-    IsOpen answered × IsEnd limits o p (next.Cut a) × Appends old new (wire limits first_mark answered)
+    IsOpen limits answered × IsEnd limits o p (next.Cut a) × Appends old new (wire limits first_mark answered)
 IsOutcome limits moment answered o p left old new LongInput =
-    IsOpen answered × IsEnd limits o p next.LongInput × Appends old new (wire limits first_mark answered)
+    IsOpen limits answered × IsEnd limits o p next.LongInput × Appends old new (wire limits first_mark answered)
 IsOutcome limits moment answered o p left old new (BadFrame a) =
-    IsOpen answered
+    IsOpen limits answered
     × ((IsEnd limits o p (next.BadFrame a) × Appends old new (wire limits first_mark answered ++ end_bytes (next.BadFrame a)))
     ⊎ (IsEnd limits o p (next.BadCoding a) × Appends old new (wire limits first_mark answered ++ end_bytes (next.BadCoding a))))
 IsOutcome limits moment answered o p left old new (TooLarge a) =
-    IsOpen answered
+    IsOpen limits answered
     × ((IsEnd limits o p (next.LargeHead a) × Appends old new (wire limits first_mark answered ++ end_bytes (next.LargeHead a)))
     ⊎ (IsEnd limits o p (next.LargeBody a) × Appends old new (wire limits first_mark answered ++ end_bytes (next.LargeBody a))))
 IsOutcome limits moment answered o p left old new ReadFault =
-    IsOpen answered × IsStop limits o p left next.ReadFault × Appends old new (wire limits first_mark answered)
+    IsOpen limits answered × IsStop limits o p left next.ReadFault × Appends old new (wire limits first_mark answered)
 IsOutcome limits moment answered o p left old new WriteFault =
-    IsOpen answered × ((bytes : List ℕ) × (ComesNext limits moment answered o p bytes × AppendsPart old new (wire limits first_mark answered) bytes))
+    IsOpen limits answered × ((bytes : List ℕ) × (ComesNext limits moment answered o p bytes × AppendsPart old new (wire limits first_mark answered) bytes))
 IsOutcome limits moment answered o p left old new NoMemory =
-    IsOpen answered × Appends old new (wire limits first_mark answered)
+    IsOpen limits answered × Appends old new (wire limits first_mark answered)
 IsOutcome limits moment answered o p left old new Usage = ⊥
 IsOutcome limits moment answered o p left old new Invalid = ⊥
 
@@ -102,11 +107,17 @@ abbrev pub RunsOver : Limits → ℕ → Option (List ℕ) → Option (List ℕ)
 RunsOver limits moment left left' old new status =
     (input : List ℕ) → left ≡ Some input → (rest : List ℕ) × ((left' ≡ Some rest) × IsRun limits moment input rest old new status)
 
--- all requests up to the first that closes were answered, and their answers written, or memory was wanting
+-- the requests up to the one whose answer is the last were answered, or all of them
+abbrev pub AreServed : Limits → List Answered → List Request → Type 0
+AreServed limits answered messages =
+    ((rest : List Request) × ((messages ≡ requests answered ++ rest) × IsClosed limits answered))
+    ⊎ ((messages ≡ requests answered) × IsOpen limits answered)
+
+-- the requests were answered up to the last answer, and their answers written, or memory was wanting
 abbrev pub IsComplete : Limits → ℕ → List Request → Option (List ℕ) → Option (List ℕ) → Status → Type 0
 IsComplete limits moment messages old new status =
     (status ≡ NoMemory)
-    ⊎ ((answered : List Answered) × ((status ≡ Done) × (requests answered ≡ served messages)
+    ⊎ ((answered : List Answered) × ((status ≡ Done) × AreServed limits answered messages
     × IsLegal limits first_state moment answered × Appends old new (wire limits first_mark answered)))
 
 -- ---- the standard limits

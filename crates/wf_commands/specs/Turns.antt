@@ -1,15 +1,15 @@
 -- One turn of a run: the next request is answered, or the run stops.
-use Rattle.std.specs.Prelude.{◌≡◌, ◌⊎◌, ℕ, true, false, List, [], ◌++◌, Option, Some}
+use Rattle.std.specs.Prelude.{◌≡◌, ◌⊎◌, ℕ, Bool, true, false, List, [], ◌++◌, Option, Some}
 use Rattle.wf_wire.specs.declared.limits.Limits.{Limits}
 use Rattle.wf_wire.specs.declared.inbox.Next.{Next}
 use Rattle.wf_wire.specs.declared.inbox.Next.TheVariants as next
 use Rattle.wf_wire.specs.Items.{IsMessage, IsStop, Leads}
-use Rattle.wf_wire.specs.Request.{Request, closes}
+use Rattle.wf_wire.specs.Request.{Request}
 use Rattle.wf_machine.specs.declared.calling.Reply.{Reply}
 use Rattle.wf_machine.specs.State.{State}
 use Rattle.wf_steps.specs.History.{stored, state_after}
 use Rattle.wf_rest.specs.Moments.{moment_at}
-use Rattle.wf_rest.specs.Serving.{call_of, Answered, IsAsked, IsLegal, answer_bytes, history_of, moment_after, requests, wire}
+use Rattle.wf_rest.specs.Serving.{call_of, Answered, IsAsked, IsLegal, answer_bytes, history_of, is_last, moment_after, requests, wire}
 use Rattle.wf_commands.specs.declared.status.Status.{Status}
 use Rattle.wf_commands.specs.declared.status.Status.TheVariants.{Done, NoMemory, ReadFault, WriteFault, BadFrame, Cut, LongInput, TooLarge}
 use Rattle.wf_commands.specs.declared.batch.Turn.{Turn}
@@ -17,16 +17,19 @@ use Rattle.wf_commands.specs.declared.batch.Turn.TheVariants.{Goes, Stops}
 use Rattle.wf_commands.specs.Runs.{IsOpen, end_bytes, first_mark, first_state}
 use Rattle.wf_commands.specs.Written.{Appends, AppendsPart}
 
--- the request was asked, and these bytes are the answer
-abbrev pub IsAnswer : Limits → ℕ → State → State → Request → List ℕ → Type 0
-IsAnswer limits moment s s' m bytes =
-    (reply : Option Reply) × (IsAsked limits moment s s' (call_of limits first_mark m) reply × (bytes ≡ answer_bytes limits first_mark m reply))
+-- the request was asked, these bytes are the answer, and whether it is the last one
+pub record IsAnswer (limits : Limits) (moment : ℕ) (s s' : State) (m : Request) (last : Bool) (bytes : List ℕ) : Type 0 where
+  pub reply : Option Reply
+  pub asked : IsAsked limits moment s s' (call_of limits first_mark m) reply
+  pub are : bytes ≡ answer_bytes limits first_mark m reply
+  pub ends : is_last limits first_mark (record { request = m; reply = reply }) ≡ last
 
 -- what answering a request leaves
 abbrev pub IsAnswered : Limits → ℕ → State → State → Request → Option (List ℕ) → Option (List ℕ) → Turn → Type 0
-IsAnswered limits moment s s' m old new Goes = (closes m ≡ false) × ((bytes : List ℕ) × (IsAnswer limits moment s s' m bytes × Appends old new bytes))
-IsAnswered limits moment s s' m old new (Stops Done) = (closes m ≡ true) × ((bytes : List ℕ) × (IsAnswer limits moment s s' m bytes × Appends old new bytes))
-IsAnswered limits moment s s' m old new (Stops WriteFault) = (bytes : List ℕ) × (IsAnswer limits moment s s' m bytes × AppendsPart old new [] bytes)
+IsAnswered limits moment s s' m old new Goes = (bytes : List ℕ) × (IsAnswer limits moment s s' m false bytes × Appends old new bytes)
+IsAnswered limits moment s s' m old new (Stops Done) = (bytes : List ℕ) × (IsAnswer limits moment s s' m true bytes × Appends old new bytes)
+IsAnswered limits moment s s' m old new (Stops WriteFault) =
+    (bytes : List ℕ) × ((last : Bool) × (IsAnswer limits moment s s' m last bytes × AppendsPart old new [] bytes))
 IsAnswered limits moment s s' m old new (Stops NoMemory) = Appends old new []
 IsAnswered limits moment s s' m old new (Stops status) = ⊥
 
@@ -63,7 +66,7 @@ IsTurn limits before after o p left o' p' s s' old new (Stops status) =
 -- after these answers the input stands at the offset o with p, the machine in the state s, and the moment `now` is in force
 pub record Stands (limits : Limits) (moment : ℕ) (input : List ℕ) (old : Option (List ℕ)) (answered : List Answered) (o : ℕ) (p : List ℕ) (s : State) (now : ℕ) (new : Option (List ℕ)) : Type 0 where
   pub leads : Leads limits 0 input (requests answered) o p
-  pub unclosed : IsOpen answered
+  pub unclosed : IsOpen limits answered
   pub legal : IsLegal limits first_state moment answered
   pub state : stored (state_after limits first_state (history_of limits first_mark moment answered)) ≡ stored s
   pub in_force : moment_after moment answered ≡ now

@@ -1,7 +1,6 @@
 //! The command `batch`: requests from a source, their replies to a sink, one after another.
 
-ghost use Rattle.std.specs.Prelude.{◌≡◌, ◌≢◌, ◌<◌, ◌≤◌, ◌+◌, ◌^◌, ◌⊎◌, ◌↔◌, Err, IfErr, IfOk, Ok, true, false, length};
-ghost use Rattle.std.specs.Result.{result_ok};
+ghost use Rattle.std.specs.Prelude.{◌≡◌, ◌≢◌, ◌<◌, ◌≤◌, ◌+◌, ◌^◌, ◌⊎◌, ◌↔◌, Err, IfErr, IfOk, None, Ok, Some, true, false, length};
 ghost use Rattle.wf_wire.specs.Stream.{Rose};
 ghost use Rattle.wf_wire.specs.Items.{Coming};
 ghost use Rattle.wf_steps.specs.Calls.{IsProper};
@@ -10,7 +9,8 @@ ghost use Rattle.wf_rest.specs.Moments.{moment_at};
 ghost use Rattle.wf_machine.specs.Records.{IsMoment};
 ghost use Rattle.wf_rest.specs.Requests.{timed_call};
 ghost use Rattle.wf_rest.specs.Responses.{printed_fault};
-ghost use Rattle.wf_rest.specs.Serving.{IsAsked, call_of, fault_of};
+ghost use Rattle.wf_rest.specs.Serving as spec;
+ghost use Rattle.wf_rest.specs.Serving.{IsAsked, call_of, fault_of, is_last};
 ghost use Rattle.wf_commands.specs.Words.{are_batch};
 ghost use Rattle.wf_commands.specs.Runs.{CompletesFromClock, IsNoMessage, RunsFromClock, RunsOver, first_mark, first_state};
 ghost use Rattle.wf_commands.specs.Turns.{IsAnswer, IsAnswered, IsRefused, IsStopped, IsTurn};
@@ -62,40 +62,59 @@ fn answer<W: Sink>(
     ensures cause { result ≡ Turn.Stops Status.WriteFault → Rose (W.faults sink.old) (W.faults sink.new) }
     ensures own_status { (result ≢ Turn.Stops Status.Usage) × (result ≢ Turn.Stops Status.ReadFault) }
 {
-    let text = match answer_text(alloc, moment, core, routes, message) {
-        Ok(text) => text,
+    let answer = match print_answer(alloc, moment, core, routes, message) {
+        Ok(answer) => answer,
         Err(NoMemory) => return Turn::Stops(Status::NoMemory),
     };
-    if write_all(sink, text.as_str().as_bytes()).is_err() {
+    if write_all(sink, answer.text.as_str().as_bytes()).is_err() {
         return Turn::Stops(Status::WriteFault);
     }
-    if message.closes() {
+    if answer.last {
         Turn::Stops(Status::Done)
     } else {
         Turn::Goes
     }
 }
 
+/// A printed answer, and whether nothing is answered after it.
+#[derive(Drop)]
+struct Printed {
+    text: Text,
+    last: bool,
+}
+
 /// Asks the machine what a request asks for, and prints the answer.
-fn answer_text(
+fn print_answer(
     alloc: Global,
     moment: u64,
     core: &mut Core,
     routes: &Routes,
     message: &Message,
-) -> Result<Text, NoMemory>
+) -> Result<Printed, NoMemory>
     requires entries { core.old.entries < 2 ^ 62 }
     requires moment { IsMoment moment }
-    ensures answer { IfOk result (IsAnswer core.old.limits moment core.old.state core.new.state message.now) }
+    ensures answer { IfOk result (λ answer. IsAnswer core.old.limits moment core.old.state core.new.state message.now answer.last answer.text) }
     ensures limits { core.new.limits ≡ core.old.limits }
     ensures entries { core.new.entries ≤ core.old.entries + 1 }
 {
-    let close = message.closes();
     let head = message.method() == b"HEAD".as_slice();
     match ask(alloc, moment, core, routes, message) {
-        Ok(reply) => print_reply(alloc, &reply, MARK, close, head),
-        Err(fault) => print_fault(alloc, &fault, close, head),
+        Ok(told) => Ok(Printed {
+            text: print_reply(alloc, &told.reply, MARK, told.last, head)?,
+            last: told.last,
+        }),
+        Err(fault) => Ok(Printed {
+            text: print_fault(alloc, &fault, message.closes(), head)?,
+            last: message.closes(),
+        }),
     }
+}
+
+/// A reply of the machine, and whether nothing is answered after it.
+#[derive(Drop)]
+struct Told {
+    reply: Reply,
+    last: bool,
 }
 
 /// The machine's reply to a request, or why it is no call. Where memory was wanting while it was read, the reply says so.
@@ -105,19 +124,47 @@ fn ask(
     core: &mut Core,
     routes: &Routes,
     message: &Message,
-) -> Result<Reply, HttpFault>
+) -> Result<Told, HttpFault>
     requires entries { core.old.entries < 2 ^ 62 }
     requires moment { IsMoment moment }
-    ensures asked { IsAsked core.old.limits moment core.old.state core.new.state (call_of core.old.limits first_mark message.now) (result_ok result) }
+    ensures asked { IfOk result (λ told. IsAsked core.old.limits moment core.old.state core.new.state (call_of core.old.limits first_mark message.now) (Some told.reply)) }
+    ensures last { IfOk result (λ told. is_last core.old.limits first_mark (record { request = message.now; reply = Some told.reply }) ≡ told.last) }
+    ensures none { IfErr result (λ fault. IsAsked core.old.limits moment core.old.state core.new.state (call_of core.old.limits first_mark message.now) None) }
     ensures fault { IfErr result (λ fault. fault_of core.old.limits first_mark message.now ≡ fault) }
-    ensures printable { IfOk result IsPrintable }
+    ensures printable { IfOk result (λ told. IsPrintable told.reply) }
     ensures limits { core.new.limits ≡ core.old.limits }
     ensures entries { core.new.entries ≤ core.old.entries + 1 }
 {
     match read_timed(alloc, core.limits(), routes, message) {
-        Ok(call) => Ok(core.step(alloc, 0, moment, call)),
-        Err(HttpFault::NoMemory) => Ok(Reply::Refused(Refusal::NoMemory)),
+        Ok(call) => {
+            let asks_end = is_shutdown(&call);
+            let reply = core.step(alloc, 0, moment, call);
+            let last = message.closes() || (asks_end && was_accepted(&reply));
+            Ok(Told { reply, last })
+        }
+        Err(HttpFault::NoMemory) => Ok(Told {
+            reply: Reply::Refused(Refusal::NoMemory),
+            last: message.closes(),
+        }),
         Err(fault) => Err(fault),
+    }
+}
+
+fn is_shutdown(call: &Call) -> bool
+    ensures { result ≡ spec.is_shutdown (Some call.now) }
+{
+    match call {
+        Call::Shutdown => true,
+        _ => false,
+    }
+}
+
+fn was_accepted(reply: &Reply) -> bool
+    ensures { result ≡ spec.was_accepted (Some reply.now) }
+{
+    match reply {
+        Reply::Accepted => true,
+        _ => false,
     }
 }
 
@@ -224,7 +271,7 @@ fn take_turn<R: Source, W: Sink>(
     }
 }
 
-/// Answers the requests of the source, up to the first that closes or to the end of the input.
+/// Answers the requests of the source, up to the last answer of the run or to the end of the input.
 fn serve<R: Source, W: Sink>(
     alloc: Global,
     moment: u64,
@@ -261,7 +308,8 @@ fn serve<R: Source, W: Sink>(
 ///
 /// The words are `batch` alone. A request acts at the moment that its one field `Moment-Ms` states, in milliseconds, or
 /// else at that of the nearest request before it that states one, or else at the clock's one reading. Where an answer or an
-/// end finds no memory, nothing more is written; a call that finds none is answered NO_MEMORY, and the run goes on.
+/// end finds no memory, nothing more is written; a call that finds none is answered NO_MEMORY, and the run goes on. It ends
+/// after a request that closes, and after one that asks for the end of the run, where that is accepted.
 pub fn batch<R: Source, W: Sink, C: Clock>(
     alloc: Global,
     words: &[Word],

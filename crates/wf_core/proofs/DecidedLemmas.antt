@@ -1,17 +1,16 @@
 -- What a decision of a flow makes of the state.
-use Rattle.std.proofs.Common.{◌≡◌, ◌∙◌, ℕ, ◌+◌, ◌≤◌, ◌==◌, Bool, true, false, ◌&&◌, ◌||◌, not, if◌then◌else◌, List, [], ◌∷◌, ◌++◌, map, filter, length, Option, None, Some, refl, sym, ap, arith}
+use Rattle.std.proofs.Common.{◌≡◌, ◌∙◌, ℕ, ◌+◌, ◌≤◌, ◌==◌, Bool, true, false, ◌&&◌, ◌||◌, if◌then◌else◌, List, [], ◌∷◌, ◌++◌, map, filter, length, Option, None, Some, refl, sym, ap, arith}
 use Rattle.std.proofs.lemmas.Bool.Decides.{nat_tests}
 use Rattle.std.proofs.lemmas.List.{length-append, length-map, map-append}
 use Rattle.std.specs.Option.{option_map_or}
 use Rattle.wf_doc.specs.declared.doc.Doc.{Doc}
-use Rattle.wf_names.specs.TaskStatus.{task_is_open}
 use Rattle.wf_names.specs.declared.ids.FlowNo.{FlowNo}
 use Rattle.wf_names.specs.declared.ids.TaskNo.{TaskNo}
 use Rattle.wf_names.specs.declared.ids.IdKind.TheVariants as kind
 use Rattle.wf_wire.specs.declared.limits.Limits.{Limits}
 use Rattle.wf_machine.specs.declared.calling.Reply.TheVariants.{Id}
 use Rattle.wf_machine.specs.declared.definition.FlowDef.{FlowDef}
-use Rattle.wf_machine.specs.State.{Attempt, Flow, Kept, State, attempt_numbered, new_flow}
+use Rattle.wf_machine.specs.State.{Attempt, Flow, Kept, State, new_flow}
 use Rattle.wf_machine.specs.Flows.{ends_now, flow_numbered, has_numbered, has_open, is_concerned, is_flow, loses_parent, new_kept, revised, stops}
 use Rattle.wf_flow.specs.Room.{FlowRoom}
 use Rattle.wf_rules.specs.Acts.{Turn}

@@ -13,7 +13,7 @@ use Rattle.wf_kept.specs.Flows.{AreAttemptsBelow, flow_number}
 use Rattle.wf_kept.specs.Rising.{RisesTo}
 use Rattle.std.specs.List.{find}
 use Rattle.wf_core.specs.Found.{with_waiting}
-use Rattle.wf_core.specs.Grown.{IsChanged}
+use Rattle.wf_core.specs.Grown.{IsChanged, IsCopied}
 use Rattle.wf_kept.proofs.SearchLemmas.{found_itself}
 
 -- ---- the first of two lists
@@ -167,6 +167,18 @@ found_passes p (x ∷ ks) k found = by_test (p x) refl found (found_passes p ks 
   by_test false is found on = on found
 
 -- a kept flow is one that may be changed
+-- the flow that a test found, and an equal copy of it
+pub kept_copied : (s : State) (p : Kept → Bool) (k : Kept) (f : Flow) → RisesTo flow_number 1 s.next_flow s.flows → All (AreAttemptsBelow s.next_task) s.flows
+    → find p s.flows ≡ Some k → f ≡ k.flow → IsCopied f s
+kept_copied s p k f rises below found same =
+    subst (λ (g : Flow). IsCopied g s) (sym same)
+    (record {
+      old = k;
+      found = found_itself flow_number 1 s.next_flow p s.flows k rises found;
+      same = refl;
+      rising = all_found (AreAttemptsBelow s.next_task) p s.flows k below found;
+    })
+
 pub kept_changed : (s : State) (p : Kept → Bool) (k : Kept) (f : Flow) → RisesTo flow_number 1 s.next_flow s.flows → All (AreAttemptsBelow s.next_task) s.flows
     → find p s.flows ≡ Some k → f ≡ k.flow → IsChanged f s
 kept_changed s p k f rises below found same =

@@ -1,11 +1,12 @@
 -- Attempts that grow: by acts, by results and by hand-outs.
 use Rattle.std.proofs.Common.{◌≡◌, ℕ, ◌+◌, ◌≤◌, Bool, true, false, if◌then◌else◌, List, [], ◌∷◌, ◌++◌, map, length, ◌^◌, Some, Result, Ok, Err, IfOk, IsSomeAnd, refl, sym, ap, ◌∙◌, subst, arith}
 use Rattle.std.proofs.lemmas.Bool.Decides.{nat_tests}
-use Rattle.std.proofs.lemmas.List.{append-nil, length-append, length-map}
+use Rattle.std.proofs.lemmas.List.{append_assoc, append-nil, length-append, length-map}
 use Rattle.wf_names.specs.declared.ids.TaskNo.{TaskNo}
 use Rattle.wf_names.specs.TaskStatus.{task_is_open}
 use Rattle.wf_machine.specs.State.{Attempt, Flow, RisingTo, attempt_numbered, is_numbered, with_attempt, Kept, State}
 use Rattle.wf_rules.specs.Acts.{Turn}
+use Rattle.wf_rules.specs.Plans.{turn_at}
 use Rattle.wf_turn.specs.Growing.{AreMoreAttempts, AreNewFlows, IsLaterTurn}
 use Rattle.wf_rules.proofs.MakeLemmas.{rising_length}
 use Rattle.wf_kept.specs.Flows.{AreStarted, FlowTable, IsGrown, attempt_number}
@@ -15,11 +16,12 @@ use Rattle.wf_machine.specs.Flows.{flow_numbered}
 use Rattle.wf_machine.specs.Records.{is_kind_at, is_simple}
 use Rattle.wf_machine.specs.Tasks.{result_applied, takes_update}
 use Rattle.wf_flow.specs.Changes.{update_answer}
-use Rattle.wf_core.specs.Changes.{IsNewFlow, IsOldFlow}
+use Rattle.wf_core.specs.Changes.{IsFlowAnew, IsNewFlow, IsOldFlow}
 use Rattle.wf_flow.specs.Room.{FlowRoom}
 use Rattle.wf_names.specs.declared.ids.FlowNo.{FlowNo}
 use Rattle.wf_core.specs.declared.change.Decided.{Decided}
-use Rattle.wf_core.specs.Grown.{IsChanged, IsTold}
+use Rattle.wf_core.specs.Grown.{HasGrown, IsChanged, IsDecided, IsTold}
+use Rattle.wf_core.specs.Store.{Store, table_of}
 use Rattle.wf_core.proofs.DecidedLemmas.{told_next}
 
 rising-numbers : (low high : ℕ) (xs ys : List Attempt) → map attempt_number xs ≡ map attempt_number ys → RisingTo low high xs → RisingTo low high ys
@@ -148,21 +150,119 @@ grown_ready t old d found grown limit started left room_flows room_tasks =
       room_tasks = rw found (omega (arith, room_tasks, more));
     }
 
-pub old_ready : (t : FlowTable) (old : Kept) (start turn : Turn) (d : Decided) → flow_numbered start.flow.number t.kept ≡ Some old
-    → map attempt_number start.flow.attempts ≡ map attempt_number old.flow.attempts → start.children ≡ [] → start.next_flow ≡ t.next_flow → start.next_task ≡ t.next_task
-    → IsLaterTurn start turn → IsTold turn d → turn.next_task ≤ 2 ^ 56 → turn.next_flow ≤ 2 ^ 56 → length d.started.items ≤ t.spare_flows → d.next_task ≤ t.spare_tasks + t.next_task
-    → IsOldFlow t d
-old_ready t old start turn d found numbers none next task later told tasks flows room_flows room_tasks =
-    let h = later.attempts in
-    let grown : IsGrown old.flow.attempts turn.flow.attempts start.next_task turn.next_task = record { first = h.first; more = h.more; is = h.is; numbers = h.numbers ∙ numbers; rising = h.rising } in
-    let here : IsGrown old.flow.attempts d.flow.flow.attempts t.next_task d.next_task =
-    subst (λ (f : Flow). IsGrown old.flow.attempts f.attempts t.next_task d.next_task) (sym told.flow)
-    (subst (λ n. IsGrown old.flow.attempts turn.flow.attempts t.next_task n) (sym told.next_task)
-    (subst (λ n. IsGrown old.flow.attempts turn.flow.attempts n turn.next_task) task grown)) in
-    let count = told_next start turn d none later told in
-    let last = told.next_task in
-    grown_ready t old d (ap (λ (f : Flow). flow_numbered f.number t.kept) told.flow ∙ ap (λ n. flow_numbered n t.kept) later.number ∙ found) here (omega (arith, tasks, last))
-    (told_started_from t.next_flow start turn d none next later told) (omega (arith, count, flows, next)) room_flows room_tasks
+-- what has the same numbers has grown by nothing
+pub grown_same : (old new : List Attempt) (n : ℕ) → map attempt_number new ≡ map attempt_number old → IsGrown old new n n
+grown_same old new n numbers = record { first = new; more = []; is = sym (append-nil new); numbers = numbers; rising = omega arith }
+
+pub changed_grown : (f : Flow) (s : State) → IsChanged f s → HasGrown f s.next_task s
+changed_grown f s h = record { old = h.old; found = h.found; grown = grown_same h.old.flow.attempts f.attempts s.next_task h.numbers; rising = h.rising }
+
+-- a list whose numbers are those of two lists one after another is two such lists
+record IsSplit (xs ys zs : List Attempt) : Type 0 where
+  front : List Attempt
+  back : List Attempt
+  is : xs ≡ front ++ back
+  fronts : map attempt_number front ≡ map attempt_number ys
+  backs : map attempt_number back ≡ map attempt_number zs
+
+split : (xs ys zs : List Attempt) → map attempt_number xs ≡ map attempt_number (ys ++ zs) → IsSplit xs ys zs
+split xs [] zs same = record { front = []; back = xs; is = refl; fronts = refl; backs = same }
+split [] (y ∷ ys) zs same = absurd cc
+split (x ∷ xs) (y ∷ ys) zs same =
+    let one : attempt_number x ≡ attempt_number y = cc in
+    let more : map attempt_number xs ≡ map attempt_number (ys ++ zs) = cc in
+    let rest = split xs ys zs more in
+    record {
+      front = x ∷ rest.front;
+      back = rest.back;
+      is = ap (λ l. x ∷ l) rest.is;
+      fronts = ap (λ n. n ∷ map attempt_number rest.front) one ∙ ap (λ ns. attempt_number y ∷ ns) rest.fronts;
+      backs = rest.backs;
+    }
+
+rising_lower : (low mid high : ℕ) (xs : List Attempt) → low ≤ mid → RisingTo mid high xs → RisingTo low high xs
+rising_lower low mid high [] order h = omega (arith, order, h)
+rising_lower low mid high (x ∷ xs) order h = (let first = h.0 in omega (arith, order, first), h.1)
+
+rising_joined : (low mid high : ℕ) (xs ys : List Attempt) → RisingTo low mid xs → RisingTo mid high ys → RisingTo low high (xs ++ ys)
+rising_joined low mid high [] ys below above = rising_lower low mid high ys below above
+rising_joined low mid high (x ∷ xs) ys below above = (below.0, rising_joined (x.number.0 + 1) mid high xs ys below.1 above)
+
+-- what grows further has grown from the first
+pub grown_further : (xs ys zs : List Attempt) (low mid high : ℕ) → IsGrown xs ys low mid → AreMoreAttempts ys zs mid high → IsGrown xs zs low high
+grown_further xs ys zs low mid high g h =
+    let parts = split h.first g.first g.more (h.numbers ∙ ap (map attempt_number) g.is) in
+    record {
+      first = parts.front;
+      more = parts.back ++ h.more;
+      is = h.is ∙ ap (λ l. l ++ h.more) parts.is ∙ append_assoc parts.front parts.back h.more;
+      numbers = parts.fronts ∙ g.numbers;
+      rising = rising_joined low mid high parts.back h.more (rising-numbers low mid g.more parts.back (sym parts.backs) g.rising) h.rising;
+    }
+
+module _ (flow : Flow) (next_task moment : ℕ) (old new : Store) (d : Decided) (h : IsDecided flow next_task moment old new d) (same : new.state ≡ old.state) where
+  abbrev start : Turn
+  start = turn_at flow (record { flow = old.state.next_flow; task = next_task })
+
+  next_flow : old.state.next_flow ≡ new.state.next_flow
+  next_flow = ap (λ (x : State). x.next_flow) (sym same)
+
+  next_number : old.state.next_task ≡ new.state.next_task
+  next_number = ap (λ (x : State). x.next_task) (sym same)
+
+  limit : d.next_task ≤ 2 ^ 56
+  limit = let last = h.told.next_task in let tasks = h.tasks in omega (arith, tasks, last)
+
+  all_started : AreStarted new.state.next_flow (map (λ (f : FlowRoom). f.flow) d.started.items)
+  all_started = told_started_from new.state.next_flow start h.turn d refl next_flow h.later h.told
+
+  numbers_left : new.state.next_flow + length d.started.items ≤ 2 ^ 56
+  numbers_left =
+      let count = told_next start h.turn d refl h.later h.told in
+      let flows = h.flows in
+      let next = next_flow in
+      omega (arith, count, flows, next)
+
+  room : d.next_task ≤ new.rooms.tasks + new.state.next_task
+  room = let tasks = h.room_tasks in let next = next_number in omega (arith, tasks, next)
+
+  found_now : (k : Kept) → flow_numbered flow.number old.state.flows ≡ Some k → flow_numbered d.flow.flow.number new.state.flows ≡ Some k
+  found_now k found =
+      ap (λ (f : Flow). flow_numbered f.number new.state.flows) h.told.flow
+      ∙ ap (λ n. flow_numbered n new.state.flows) h.later.number
+      ∙ ap (λ (x : State). flow_numbered flow.number x.flows) same
+      ∙ found
+
+  -- a flow that had grown has grown further
+  pub old_ready : (k : Kept) → flow_numbered flow.number old.state.flows ≡ Some k → IsGrown k.flow.attempts flow.attempts old.state.next_task next_task → IsOldFlow (table_of new) d
+  old_ready k found grown =
+      let further : IsGrown k.flow.attempts h.turn.flow.attempts old.state.next_task h.turn.next_task =
+      grown_further k.flow.attempts flow.attempts h.turn.flow.attempts old.state.next_task next_task h.turn.next_task grown h.later.attempts in
+      let here : IsGrown k.flow.attempts d.flow.flow.attempts new.state.next_task d.next_task =
+      subst (λ (f : Flow). IsGrown k.flow.attempts f.attempts new.state.next_task d.next_task) (sym h.told.flow)
+      (subst (λ n. IsGrown k.flow.attempts h.turn.flow.attempts new.state.next_task n) (sym h.told.next_task)
+      (subst (λ n. IsGrown k.flow.attempts h.turn.flow.attempts n h.turn.next_task) next_number further)) in
+      grown_ready (table_of new) k d (found_now k found) here limit all_started numbers_left h.room_flows room
+
+  -- a flow without attempts has new ones alone
+  pub anew_ready : (k : Kept) → flow_numbered flow.number old.state.flows ≡ Some k → flow.attempts ≡ [] → next_task ≡ old.state.next_task → IsFlowAnew (table_of new) d
+  anew_ready k found none next =
+      let grown : IsGrown [] h.turn.flow.attempts next_task h.turn.next_task =
+      subst (λ xs. IsGrown xs h.turn.flow.attempts next_task h.turn.next_task) none (later_grown flow.attempts h.turn.flow.attempts next_task h.turn.next_task h.later.attempts) in
+      let rising : RisingTo new.state.next_task d.next_task d.flow.flow.attempts =
+      subst (λ (f : Flow). RisingTo new.state.next_task d.next_task f.attempts) (sym h.told.flow)
+      (subst (λ n. RisingTo new.state.next_task n h.turn.flow.attempts) (sym h.told.next_task)
+      (subst (λ n. RisingTo n h.turn.next_task h.turn.flow.attempts) (next ∙ next_number) (grown_new h.turn.flow.attempts next_task h.turn.next_task grown))) in
+      let count = rising_length new.state.next_task d.next_task d.flow.flow.attempts rising in
+      let tasks = room in
+      record {
+        anew = record { old = k; found = found_now k found; rising = rising };
+        limit = limit;
+        started = all_started;
+        numbers_left = numbers_left;
+        room_flows = h.room_flows;
+        room_tasks = omega (arith, tasks, count);
+      }
 
 -- ---- an attempt takes a result
 
@@ -194,6 +294,11 @@ result_changed task e outcome f a s old found same rising =
 pub if_ok : {A E : Type 0} (P Q : A → Type 0) (r : Result A E) → ((x : A) → P x → Q x) → IfOk r P → IfOk r Q
 if_ok P Q (Ok x) f h = f x h
 if_ok P Q (Err e) f h = tt
+
+-- what holds of a result by three clauses
+pub if_all : {A E : Type 0} (P Q R S : A → Type 0) (r : Result A E) → ((x : A) → P x → Q x → R x → S x) → IfOk r P → IfOk r Q → IfOk r R → IfOk r S
+if_all P Q R S (Ok x) f p q r = f x p q r
+if_all P Q R S (Err e) f p q r = tt
 
 pub none_started : (number : ℕ) (d : Decided) → d.started.items ≡ [] → AreStarted number (map (λ (f : FlowRoom). f.flow) d.started.items)
 none_started number d none = subst (λ (xs : List FlowRoom). AreStarted number (map (λ (f : FlowRoom). f.flow) xs)) (sym none) tt

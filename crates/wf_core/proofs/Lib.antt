@@ -1,4 +1,5 @@
 pub mod GrowLemmas
+pub mod OperateLemmas
 pub mod FoundLemmas
 mod MadeLemmas
 pub mod BesideLemmas

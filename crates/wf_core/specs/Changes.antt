@@ -9,11 +9,11 @@ use Rattle.wf_machine.specs.Registered.{with_flow_defs, with_task_defs, without_
 use Rattle.wf_machine.specs.Queues.{with_hand}
 use Rattle.wf_machine.specs.Records.{IsMoment}
 use Rattle.wf_machine.specs.Replies.{IsPrintable}
-use Rattle.wf_kept.specs.Flows.{AreStarted, FlowTable, IsGrownFlow, flow_changed, new_attempts}
+use Rattle.wf_kept.specs.Flows.{AreStarted, FlowTable, IsAnewFlow, IsGrownFlow, flow_changed, flow_removed, new_attempts}
 use Rattle.wf_kept.specs.Hands.{Book, HasHandRoom}
 use Rattle.wf_core.specs.Store.{Store, book_of, table_of}
 use Rattle.wf_core.specs.declared.change.Touched.{Touched}
-use Rattle.wf_core.specs.declared.change.Touched.TheVariants.{Nothing, TaskDefs, NoTaskDef, FlowDefs, NoFlowDef, NewFlow, Flow as OldFlow}
+use Rattle.wf_core.specs.declared.change.Touched.TheVariants.{Nothing, TaskDefs, NoTaskDef, FlowDefs, NoFlowDef, NewFlow, Flow as OldFlow, FlowAnew, NoFlow}
 use Rattle.wf_core.specs.declared.change.Change.{Change}
 use Rattle.wf_core.specs.declared.change.Decided.{Decided}
 
@@ -24,6 +24,16 @@ hand_noted (Some name) e hands = with_hand name e hands
 -- flows that are kept from the entry at that place on
 abbrev pub started_at : ℕ → List FlowRoom → List Kept
 started_at place flows = map (λ (f : FlowRoom). new_kept place f.flow) flows
+
+-- a kept flow is as it was decided, and those that it started are kept
+abbrev pub with_changed : ℕ → ℕ → Decided → State → State
+with_changed place e changed s =
+    record s {
+      last = e;
+      next_flow = s.next_flow + length changed.started.items;
+      next_task = changed.next_task;
+      flows = flow_changed place changed.flow.flow s.flows ++ started_at place changed.started.items;
+    }
 
 -- the state after what is touched at the moment e, by the entry at that place
 abbrev pub touched : ℕ → ℕ → Touched → State → State
@@ -40,14 +50,9 @@ touched place e (NewFlow new) s =
       next_task = new.next_task;
       flows = (s.flows ++ new_kept place new.flow.flow ∷ []) ++ started_at place new.started.items;
     }
-touched place e (OldFlow changed hand) s =
-    record s {
-      last = e;
-      next_flow = s.next_flow + length changed.started.items;
-      next_task = changed.next_task;
-      flows = flow_changed place changed.flow.flow s.flows ++ started_at place changed.started.items;
-      hands = hand_noted hand e s.hands;
-    }
+touched place e (OldFlow changed hand) s = record (with_changed place e changed s) { hands = hand_noted hand e s.hands }
+touched place e (FlowAnew changed) s = with_changed place e changed s
+touched place e (NoFlow number) s = record s { last = e; flows = flow_removed place number s.flows }
 
 -- what the change makes of the state, as the entry at that place, and the reply
 abbrev pub change_made : ℕ → Change → State → Stepped
@@ -78,6 +83,15 @@ pub record IsOldFlow (table : FlowTable) (changed : Decided) : Type 0 where
   pub room_flows : length changed.started.items ≤ table.spare_flows
   pub room_tasks : new_attempts changed.flow.flow table.kept ≤ table.spare_tasks
 
+-- a kept flow has begun anew, and there is room for its attempts and for the flows that it started
+pub record IsFlowAnew (table : FlowTable) (changed : Decided) : Type 0 where
+  pub anew : IsAnewFlow table changed.flow.flow changed.next_task
+  pub limit : changed.next_task ≤ 2 ^ 56
+  pub started : AreStarted table.next_flow (map (λ (f : FlowRoom). f.flow) changed.started.items)
+  pub numbers_left : table.next_flow + length changed.started.items ≤ 2 ^ 56
+  pub room_flows : length changed.started.items ≤ table.spare_flows
+  pub room_tasks : length changed.flow.flow.attempts ≤ table.spare_tasks
+
 -- what is touched has room, and fits what is kept
 abbrev pub IsReady : Touched → Store → Type 0
 IsReady Nothing store = Unit {0}
@@ -87,6 +101,8 @@ IsReady (FlowDefs defs) store = length defs.items ≤ store.rooms.flow_defs
 IsReady (NoFlowDef name version) store = Unit {0}
 IsReady (NewFlow new) store = IsNewFlow (table_of store) new
 IsReady (OldFlow changed hand) store = IsOldFlow (table_of store) changed × HasRoomFor hand (book_of store)
+IsReady (FlowAnew changed) store = IsFlowAnew (table_of store) changed
+IsReady (NoFlow number) store = Unit {0}
 
 -- the change is what a call makes of the state, and it is ready
 pub record IsPrepared (made : Stepped) (old new : Store) (change : Change) : Type 0 where

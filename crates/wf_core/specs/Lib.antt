@@ -2,3 +2,4 @@ pub mod Store
 pub mod Changes
 pub mod Grown
 pub mod Found
+pub mod Operations

@@ -5,6 +5,7 @@ ghost use Rattle.std.specs.Prelude.{◌≡◌};
 use wf_doc::Text;
 use wf_flow::Flow as FlowRecord;
 use wf_machine::{FlowDef as Definition, Reply, TaskDef};
+use wf_names::FlowNo;
 
 /// What a change touches.
 #[derive(Drop)]
@@ -23,6 +24,10 @@ pub enum Touched {
     /// The kept flow of its number becomes this one, and those that it started are kept. Where a name is given, a hand-out
     /// of that name is noted.
     Flow(Decided, Option<Text>),
+    /// The same of a flow that begins anew: the attempts that it had are gone.
+    FlowAnew(Decided),
+    /// The flow of that number is taken out, with its attempts.
+    NoFlow(FlowNo),
 }
 
 /// A flow as it is from now on.

@@ -18,7 +18,7 @@ use wf_turn::Turn;
 
 impl Core {
     /// Decides the flow in the present state, at a moment no earlier than the last change, when so many flows are kept
-    /// and the next flow gets that number.
+    /// and the next flow and the next attempt get those numbers.
     pub(crate) fn decide(
         &self,
         alloc: Global,
@@ -26,19 +26,21 @@ impl Core {
         flow: Flow,
         kept: u64,
         next_flow: u64,
+        next_task: u64,
     ) -> Result<Turn, NoMemory>
-        requires rising { RisingTo 1 self.now.state.next_task flow.flow.attempts }
+        requires rising { RisingTo 1 next_task flow.flow.attempts }
         requires moment { IsMoment moment }
         requires next { self.now.state.next_flow ≤ next_flow }
         requires limit { next_flow ≤ 2 ^ 56 }
+        requires limit_tasks { next_task ≤ 2 ^ 56 }
         ensures turn { IfOk result (λ turn. turn ≡ spec.decide self.now.limits (scene_in self.now.state flow.flow) kept moment
-            (turn_at flow.flow (record { flow = next_flow; task = self.now.state.next_task }))) }
-        ensures later { IfOk result (λ turn. IsLaterTurn (turn_at flow.flow (record { flow = next_flow; task = self.now.state.next_task })) turn) }
+            (turn_at flow.flow (record { flow = next_flow; task = next_task }))) }
+        ensures later { IfOk result (λ turn. IsLaterTurn (turn_at flow.flow (record { flow = next_flow; task = next_task })) turn) }
         ensures last { IfOk result (λ turn. (turn.next_task ≤ 2 ^ 56) × (turn.next_flow ≤ 2 ^ 56)) }
     {
         let children = self.children_of(flow.number());
         let at = self.setting(&flow, &children, moment);
-        let mut turn = Turn::new(alloc, flow, next_flow, self.flows.next_task());
+        let mut turn = Turn::new(alloc, flow, next_flow, next_task);
         decide(alloc, &at, kept, &mut turn)?;
         let _last = (turn.next_flow(), turn.next_task());
         Ok(turn)

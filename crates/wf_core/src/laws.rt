@@ -14,7 +14,9 @@ ghost use Rattle.wf_steps.specs.declared.calling.Entry.{Entry};
 ghost use Rattle.wf_machine.specs.declared.calling.Reply.{Reply};
 ghost use Rattle.wf_machine.specs.declared.calling.TaskResult.{TaskResult};
 
-pub use wf_laws::{decided_once, handed_once, loops_stay_fit, sound_stays, valid_loops_fit};
+pub use wf_laws::{
+    decided_once, handed_once, loops_stay_fit, numbers_are_given_once, sound_stays, valid_loops_fit,
+};
 
 /// An update of an attempt that has ended leaves the state, and is accepted.
 pub fn ended_stays()

@@ -12,6 +12,7 @@ mod deciding;
 mod definitions;
 pub mod laws;
 mod no_memory;
+mod operations;
 mod polls;
 mod reads;
 mod registrations;

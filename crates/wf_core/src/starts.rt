@@ -77,9 +77,9 @@ impl Core {
             moment,
         );
         let _rising = self.flows.as_slice();
-        let _next_task = self.flows.next_task();
+        let next_task = self.flows.next_task();
         let kept = self.flows.len() as u64 + 1;
-        let turn = self.decide(alloc, moment, flow, kept, number + 1)?;
+        let turn = self.decide(alloc, moment, flow, kept, number + 1, next_task)?;
         let decided = self.reserve(1, turn)?;
         Ok(Change {
             moment,

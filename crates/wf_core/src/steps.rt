@@ -168,6 +168,11 @@ impl Core {
             } => self.prepare_update(alloc, at, flow, task, outcome),
             Call::Decide(number) => self.prepare_decide(alloc, at, number),
             Call::Sweep => self.prepare_sweep(alloc, at),
+            Call::Operate(number, operation) => self.prepare_operate(alloc, at, number, operation),
+            Call::Remove(number) => Ok(self.prepare_remove(at, number)),
+            Call::Shutdown => Ok(Change::none(Reply::Accepted)),
+            Call::Look(_) => Ok(Change::none(Reply::Nothing)),
+            Call::Drain => Ok(Change::none(Reply::Nothing)),
         }
     }
 
@@ -233,6 +238,16 @@ impl Core {
                     .replace(changed.flow, self.entries + 1, changed.next_task);
                 self.flows.add_started(changed.started, self.entries + 1);
                 self.note_hand(hand, moment);
+            }
+            Touched::FlowAnew(changed) => {
+                self.last = moment;
+                self.flows
+                    .replace_anew(changed.flow, self.entries + 1, changed.next_task);
+                self.flows.add_started(changed.started, self.entries + 1);
+            }
+            Touched::NoFlow(number) => {
+                self.last = moment;
+                self.flows.remove(number, self.entries + 1);
             }
         }
     }

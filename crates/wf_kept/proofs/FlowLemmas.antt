@@ -7,6 +7,7 @@ use Rattle.std.proofs.lemmas.Bool.Decides.{nat_tests}
 use Rattle.std.proofs.Math.Seq.{drop-append_seam}
 use Rattle.std.proofs.lemmas.List.Folds.{find-append}
 use Rattle.std.proofs.lemmas.List.Elements.{All-append, All-cons, All-head, All-nil, All-tail, All-weaker}
+use Rattle.wf_names.specs.declared.ids.FlowNo.{FlowNo}
 use Rattle.wf_names.specs.declared.ids.TaskNo.{TaskNo}
 use Rattle.wf_machine.specs.State.{Attempt, Flow, Kept, RisingTo, attempt_numbered}
 use Rattle.wf_machine.specs.Flows.{flow_numbered, flow_of_task, has_attempt, is_flow}
@@ -14,7 +15,7 @@ use Rattle.wf_kept.specs.declared.index.Placed.{Placed}
 use Rattle.wf_kept.specs.Rising.{IsPlaceOf, RisesTo}
 use Rattle.wf_kept.specs.declared.kept.KeptFlow.{KeptFlow}
 use Rattle.wf_kept.specs.Flows.{AreAttemptsBelow, FlowTable, IsGrown, IsGrownFlow, IsKeptIn, all_kept, attempt_count, attempt_number, flow_number, kept, new_attempts, with_kept}
-use Rattle.wf_kept.specs.Index.{AreTied, placed_in, placed_task, rows_of}
+use Rattle.wf_kept.specs.Index.{ArePlaced, AreTied, placed_in, placed_task, rows_of}
 use Rattle.wf_kept.proofs.SearchLemmas.{found_at, found_itself, low_at, rises_append, rises_range}
 use Rattle.wf_kept.proofs.IndexLemmas.{has_append, has_by_numbers, none_has, numbered_above, placed_append, rising_range, rows_rise, rows_tell}
 
@@ -43,6 +44,15 @@ rising_by_numbers low high (x ∷ xs) (y ∷ ys) same rising =
 
 -- ---- a flow that was found
 
+-- what is found passes the test
+found_passes : {T : Type 0} (p : T → Bool) (xs : List T) (x : T) → find p xs ≡ Some x → p x ≡ true
+found_passes p [] x found = absurd cc
+found_passes p (y ∷ ys) x found =
+    elim (p y) as (λ b. p y ≡ b → cond b (Some y) (find p ys) ≡ Some x → p x ≡ true) [
+      | true ↦ λ passes f. let same : y ≡ x = cc in ap p (sym same) ∙ passes
+      | false ↦ λ passes f. found_passes p ys x f
+    ] refl found
+
 all_found : {T : Type 0} (P : T → Type 0) (p : T → Bool) (xs : List T) (x : T) → All P xs → find p xs ≡ Some x → P x
 all_found P p [] x all found = absurd cc
 all_found P p (y ∷ ys) x all found =
@@ -62,6 +72,22 @@ pub found_kept : (table : FlowTable) (task : TaskNo) (r : Option (Bor KeptFlow))
     → option_map kept (option_copied r) ≡ flow_of_task task table.kept → IfSome r (λ k. IsKeptIn table (kept k.now))
 found_kept table task None rising attempts told = tt
 found_kept table task (Some k) rising attempts told = found_in table task (kept k.now) rising attempts (sym told)
+
+-- ---- what was placed stays so, and new attempts are placed
+
+placed_before : (index rows : List Placed) (k : Kept) → ArePlaced index k → ArePlaced (index ++ rows) k
+placed_before index rows k placed task has = placed_append task.0 index rows ∙ ap (λ o. option_or o (placed_in task.0 rows)) (placed task has)
+
+-- attempts from the next number on are placed by their rows
+placed_new : (flows : List Kept) (index : List Placed) (next_flow next_task task : ℕ) → AreTied flows index next_flow next_task
+    → (flow : FlowNo) (more : List Attempt) → RisingTo next_task task more
+    → (t : TaskNo) → is_some (attempt_numbered t more) ≡ true → placed_in t.0 (index ++ rows_of flow more) ≡ Some flow.0
+placed_new flows index next_flow next_task task tied flow more rising t has =
+    let none = none_has next_task t flows tied.attempts_rise (numbered_above next_task task t more rising has) in
+    placed_append t.0 index (rows_of flow more)
+    ∙ ap (λ o. option_or o (placed_in t.0 (rows_of flow more))) (tied.tells t ∙ ap (option_map flow_number) none)
+    ∙ rows_tell flow t more
+    ∙ ap (λ b. if b then Some flow.0 else None) has
 
 -- ---- a flow is added
 
@@ -92,10 +118,16 @@ tied_added flows index next_flow next_task task k tied number left rising limit 
           (All-cons (AreAttemptsBelow task) k [] (rising_lower 1 next_task task k.flow.attempts from_one rising) (All-nil (AreAttemptsBelow task)));
       rows_rise = rises_append placed_task 1 next_task task index _ tied.rows_rise (rows_rise k.flow.number next_task task k.flow.attempts rising);
       tells = λ t. tells_more t index flows k (tied.tells t);
+      placed = All-append (ArePlaced all_rows) flows (k ∷ [])
+          (All-weaker (ArePlaced index) (ArePlaced all_rows) (placed_before index (rows_of k.flow.number k.flow.attempts)) flows tied.placed)
+          (All-cons (ArePlaced all_rows) k [] (placed_new flows index next_flow next_task task tied k.flow.number k.flow.attempts rising) (All-nil (ArePlaced all_rows)));
       flow_numbers = omega arith;
       task_numbers = limit;
     }
   where
+    all_rows : List Placed
+    all_rows = index ++ rows_of k.flow.number k.flow.attempts
+
     widened : next_task ≤ task → All (AreAttemptsBelow task) flows
     widened order = All-weaker (AreAttemptsBelow next_task) (AreAttemptsBelow task) (λ x rising. rising_higher 1 next_task task x.flow.attempts rising order) flows tied.attempts_rise
 
@@ -122,13 +154,13 @@ module _ (k : Kept) where
       let above = low_at flow_number (flow_number x + 1) high (flow_number k) xs i rising.1 there in
       grind (arith, nat_tests, with_at (flow_number x + 1) high xs i rising.1 there)
 
-  rises_with : (low high : ℕ) (xs : List Kept) → RisesTo flow_number low high xs → RisesTo flow_number low high (with_kept k xs)
+  pub rises_with : (low high : ℕ) (xs : List Kept) → RisesTo flow_number low high xs → RisesTo flow_number low high (with_kept k xs)
   rises_with low high [] rising = rising
   rises_with low high (x ∷ xs) rising =
       let same = put_number x in
       (subst (λ n. low ≤ n) (sym same) rising.0, subst (λ n. RisesTo flow_number (n + 1) high (with_kept k xs)) (sym same) (rises_with (flow_number x + 1) high xs rising.1))
 
-  all_with : (P Q : Kept → Type 0) (xs : List Kept) → ((x : Kept) → P x → Q x) → Q k → All P xs → All Q (with_kept k xs)
+  pub all_with : (P Q : Kept → Type 0) (xs : List Kept) → ((x : Kept) → P x → Q x) → Q k → All P xs → All Q (with_kept k xs)
   all_with P Q [] weaker new all = All-nil Q
   all_with P Q (x ∷ xs) weaker new all =
       All-cons Q (put x) (with_kept k xs)
@@ -177,6 +209,10 @@ module _ (k : Kept) where
 
 module _ (flows : List Kept) (index : List Placed) (next_flow next_task task : ℕ) (tied : AreTied flows index next_flow next_task) (k old : Kept)
     (found : flow_numbered k.flow.number flows ≡ Some old) (grown : IsGrown old.flow.attempts k.flow.attempts next_task task) where
+  or_false : (b : Bool) → (b || false) ≡ b
+  or_false true = refl
+  or_false false = refl
+
   has_either : (t : TaskNo) → has_attempt t k ≡ (has_attempt t old || is_some (attempt_numbered t grown.more))
   has_either t =
       ap (λ xs. is_some (attempt_numbered t xs)) grown.is
@@ -194,10 +230,6 @@ module _ (flows : List Kept) (index : List Placed) (next_flow next_task task : �
       or_none None = refl
       or_none (Some x) = refl
 
-      or_false : (b : Bool) → (b || false) ≡ b
-      or_false true = refl
-      or_false false = refl
-
       or_true : (b : Bool) → (b || true) ≡ true
       or_true true = refl
       or_true false = refl
@@ -214,19 +246,28 @@ module _ (flows : List Kept) (index : List Placed) (next_flow next_task task : �
           let has : has_attempt t k ≡ has_attempt t old = has_either t ∙ ap (λ b. has_attempt t old || b) more ∙ or_false (has_attempt t old) in
           or_none (option_map flow_number (flow_of_task t flows)) ∙ sym (found_same k (has_attempt t) 1 next_flow old flows tied.flows_rise found has)
 
-  old_below : (xs : List Kept) → All (AreAttemptsBelow next_task) xs → flow_numbered k.flow.number xs ≡ Some old → AreAttemptsBelow next_task old
-  old_below [] all found = absurd cc
-  old_below (x ∷ xs) all found =
-      elim (is_flow k.flow.number x) as (λ b. cond b (Some x) (flow_numbered k.flow.number xs) ≡ Some old → AreAttemptsBelow next_task old) [
-        | true ↦ λ f. let is : x ≡ old = cc in subst (AreAttemptsBelow next_task) is (All-head (AreAttemptsBelow next_task) x xs all)
-        | false ↦ λ f. old_below xs (All-tail (AreAttemptsBelow next_task) x xs all) f
-      ] found
+  old_below : AreAttemptsBelow next_task old
+  old_below = all_found (AreAttemptsBelow next_task) (is_flow k.flow.number) flows old tied.attempts_rise found
+
+  old_placed : ArePlaced index old
+  old_placed = all_found (ArePlaced index) (is_flow k.flow.number) flows old tied.placed found
+
+  old_number : flow_number old ≡ flow_number k
+  old_number = let passes = found_passes (is_flow k.flow.number) flows old found in grind (arith, nat_tests)
+
+  placed_grown : ArePlaced (index ++ rows_of k.flow.number grown.more) k
+  placed_grown t has = by_more (is_some (attempt_numbered t grown.more)) refl where
+    by_more : (b : Bool) → is_some (attempt_numbered t grown.more) ≡ b → placed_in t.0 (index ++ rows_of k.flow.number grown.more) ≡ Some (flow_number k)
+    by_more true more = placed_new flows index next_flow next_task task tied k.flow.number grown.more grown.rising t more
+    by_more false more =
+        let had : has_attempt t old ≡ true = sym (has_either t ∙ ap (λ b. has_attempt t old || b) more ∙ or_false (has_attempt t old)) ∙ has in
+        placed_before index (rows_of k.flow.number grown.more) old old_placed t had ∙ ap Some old_number
 
   grown_below : AreAttemptsBelow task k
   grown_below =
       subst (λ xs. RisingTo 1 task xs) (sym grown.is)
       (rising_append 1 next_task task grown.first grown.more
-      (rising_by_numbers 1 next_task grown.first old.flow.attempts grown.numbers (old_below flows tied.attempts_rise found)) grown.rising)
+      (rising_by_numbers 1 next_task grown.first old.flow.attempts grown.numbers old_below) grown.rising)
 
   pub tied_grown : task ≤ 2 ^ 56 → AreTied (with_kept k flows) (index ++ rows_of k.flow.number grown.more) next_flow task
   tied_grown limit =
@@ -236,6 +277,7 @@ module _ (flows : List Kept) (index : List Placed) (next_flow next_task task : �
         attempts_rise = all_with k (AreAttemptsBelow next_task) (AreAttemptsBelow task) flows (λ x rising. rising_higher 1 next_task task x.flow.attempts rising order) grown_below tied.attempts_rise;
         rows_rise = rises_append placed_task 1 next_task task index _ tied.rows_rise (rows_rise k.flow.number next_task task grown.more grown.rising);
         tells = tells_grown;
+        placed = all_with k (ArePlaced index) (ArePlaced (index ++ rows_of k.flow.number grown.more)) flows (placed_before index (rows_of k.flow.number grown.more)) placed_grown tied.placed;
         flow_numbers = tied.flow_numbers;
         task_numbers = limit;
       }

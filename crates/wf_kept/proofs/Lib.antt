@@ -4,3 +4,4 @@ pub mod IndexLemmas
 pub mod FlowLemmas
 pub mod HandLemmas
 pub mod RevisedLemmas
+pub mod RemovalLemmas

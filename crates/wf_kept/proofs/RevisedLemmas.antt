@@ -7,10 +7,10 @@ use Rattle.wf_names.specs.declared.ids.TaskNo.{TaskNo}
 use Rattle.wf_machine.specs.State.{Flow, Kept, RisingTo, attempt_numbered}
 use Rattle.wf_machine.specs.Flows.{flow_numbered, flow_of_task, has_attempt, is_concerned, is_flow, new_kept, revised}
 use Rattle.wf_kept.specs.Rising.{RisesTo}
-use Rattle.wf_kept.specs.Index.{AreTied}
+use Rattle.wf_kept.specs.Index.{AreTied, placed_in}
 use Rattle.wf_kept.specs.declared.index.Placed.{Placed}
 use Rattle.wf_kept.specs.declared.kept.KeptFlow.{KeptFlow}
-use Rattle.wf_kept.specs.Flows.{AreAttemptsBelow, all_kept, flow_changed, flow_number, kept, revised_with, with_kept}
+use Rattle.wf_kept.specs.Flows.{all_kept, flow_changed, flow_number, kept, revised_with, with_kept}
 use Rattle.wf_kept.proofs.FlowLemmas.{set_kept}
 
 -- a flow that is put in its place, and then the others
@@ -77,14 +77,37 @@ get_within [] n lt = absurd (omega (arith, lt))
 get_within (x ∷ xs) zero lt = (x, refl)
 get_within (x ∷ xs) (suc n) lt = get_within xs n (omega (arith, lt))
 
+module _ (f : Kept → Kept) (xs : List Kept) (n : ℕ) (ys : List KeptFlow) (k : Kept) (so_far : all_kept ys ≡ changed_from f (suc n) xs) (there : slice_get xs n ≡ Some k) where
+  present : slice_get (all_kept ys) n ≡ Some k
+  present = ap (λ zs. slice_get zs n) so_far ∙ next_there f xs n k there
+
+  -- it stays
+  pub one_left : f k ≡ k → all_kept ys ≡ changed_from f n xs
+  one_left same = so_far ∙ kept_more f xs n k there same
+
+  -- it gets that revision
+  pub one_revised : (place : ℕ) (zs : List KeptFlow) → f k ≡ record k { revision = place }
+      → IfSome (slice_get ys n) (λ y. zs ≡ slice_set ys n (record y { revision = place })) → all_kept zs ≡ changed_from f n xs
+  one_revised place zs revised set = by_item (slice_get ys n) refl set where
+    by_item : (o : Option KeptFlow) → slice_get ys n ≡ o → IfSome o (λ y. zs ≡ slice_set ys n (record y { revision = place })) → all_kept zs ≡ changed_from f n xs
+    by_item None none h = let no : None ≡ Some k = sym (get_kept ys n ∙ ap (option_map kept) none) ∙ present in absurd cc
+    by_item (Some y) is h =
+        let found : Some (kept y) ≡ Some k = sym (get_kept ys n ∙ ap (option_map kept) is) ∙ present in
+        let same : kept y ≡ k = cc in
+        ap all_kept h ∙ set_kept ys n (record y { revision = place })
+        ∙ ap (slice_set (all_kept ys) n) (ap (λ (x : Kept). record x { revision = place }) same ∙ sym revised)
+        ∙ ap (λ l. slice_set l n (f k)) so_far
+        ∙ changed_more f xs n k there
+
+-- what stands at a place that wasn't looked at stood there at first
+pub stood_there : (f : Kept → Kept) (xs : List Kept) (n : ℕ) (ys : List KeptFlow) (y : KeptFlow) → all_kept ys ≡ changed_from f (suc n) xs → n < length xs
+    → slice_get ys n ≡ Some y → slice_get xs n ≡ Some (kept y)
+stood_there f xs n ys y so_far within there =
+    let was = get_within xs n within in
+    was.1 ∙ sym (present f xs n ys was.0 so_far was.1) ∙ get_kept ys n ∙ ap (option_map kept) there
+
 module _ (place : ℕ) (before : Flow) (xs : List Kept) (p n : ℕ) (ys : List KeptFlow) (now k : Kept)
     (so_far : all_kept ys ≡ changed_from (revised_with place before now.flow) (suc n) xs) (here : slice_get xs p ≡ Some now) (there : slice_get xs n ≡ Some k) where
-  f : Kept → Kept
-  f = revised_with place before now.flow
-
-  present : slice_get (all_kept ys) n ≡ Some k
-  present = ap (λ zs. slice_get zs n) so_far ∙ next_there (revised_with place before now.flow) xs n k there
-
   same_flow : (m : Kept) → slice_get (all_kept ys) p ≡ Some m → m.flow ≡ now.flow
   same_flow m is =
       let flows = flow_there (revised_with place before now.flow) xs (suc n) p (flow_stays place before now.flow) in
@@ -99,31 +122,20 @@ module _ (place : ℕ) (before : Flow) (xs : List Kept) (p n : ℕ) (ys : List K
         let no : None ≡ Some now.flow = sym (ap (option_map (λ (x : Kept). x.flow)) none) ∙ ap (λ zs. option_map (λ (x : Kept). x.flow) (slice_get zs p)) so_far ∙ flows ∙ ap (option_map (λ (x : Kept). x.flow)) here in
         absurd cc
     by_place (Some m) is h =
-        let test : b ≡ is_concerned before m.flow k.flow = subst (λ o. IfSome o (λ o. b ≡ is_concerned before m.flow o.flow)) present h in
+        let test : b ≡ is_concerned before m.flow k.flow = subst (λ o. IfSome o (λ o. b ≡ is_concerned before m.flow o.flow)) (present (revised_with place before now.flow) xs n ys k so_far there) h in
         test ∙ ap (λ g. is_concerned before g k.flow) (same_flow m is)
 
   pub not_concerned : (b : Bool) → b ≡ false → IfSome (slice_get (all_kept ys) p) (λ m. IfSome (slice_get (all_kept ys) n) (λ o. b ≡ is_concerned before m.flow o.flow))
       → all_kept ys ≡ changed_from (revised_with place before now.flow) n xs
   not_concerned b off test =
-      let no : is_concerned before now.flow k.flow ≡ false = sym (told b test) ∙ off in
-      so_far ∙ kept_more (revised_with place before now.flow) xs n k there (ap (λ c. if c then record k { revision = place } else k) no)
+      one_left (revised_with place before now.flow) xs n ys k so_far there
+      (ap (λ c. if c then record k { revision = place } else k) (sym (told b test) ∙ off))
 
   pub concerned : (b : Bool) (zs : List KeptFlow) → b ≡ true → IfSome (slice_get (all_kept ys) p) (λ m. IfSome (slice_get (all_kept ys) n) (λ o. b ≡ is_concerned before m.flow o.flow))
       → IfSome (slice_get ys n) (λ y. zs ≡ slice_set ys n (record y { revision = place })) → all_kept zs ≡ changed_from (revised_with place before now.flow) n xs
-  concerned b zs on test set = by_item (slice_get ys n) refl set where
-    yes : is_concerned before now.flow k.flow ≡ true
-    yes = sym (told b test) ∙ on
-
-    by_item : (o : Option KeptFlow) → slice_get ys n ≡ o → IfSome o (λ y. zs ≡ slice_set ys n (record y { revision = place })) → all_kept zs ≡ changed_from (revised_with place before now.flow) n xs
-    by_item None none h = let no : None ≡ Some k = sym (get_kept ys n ∙ ap (option_map kept) none) ∙ present in absurd cc
-    by_item (Some y) is h =
-        let found : Some (kept y) ≡ Some k = sym (get_kept ys n ∙ ap (option_map kept) is) ∙ present in
-        let same : kept y ≡ k = cc in
-        let revised_k : revised_with place before now.flow k ≡ record k { revision = place } = ap (λ c. if c then record k { revision = place } else k) yes in
-        ap all_kept h ∙ set_kept ys n (record y { revision = place })
-        ∙ ap (slice_set (all_kept ys) n) (ap (λ (x : Kept). record x { revision = place }) same ∙ sym revised_k)
-        ∙ ap (λ l. slice_set l n (revised_with place before now.flow k)) so_far
-        ∙ changed_more (revised_with place before now.flow) xs n k there
+  concerned b zs on test set =
+      one_revised (revised_with place before now.flow) xs n ys k so_far there place zs
+      (ap (λ c. if c then record k { revision = place } else k) (sym (told b test) ∙ on)) set
 
 -- the same where the place of the changed flow isn't known to be there
 pub looked_at : (place : ℕ) (before : Flow) (xs : List Kept) (p n m : ℕ) (ys zs : List KeptFlow) (b : Bool) → m ≡ suc n → n < length xs
@@ -166,11 +178,12 @@ module _ (f : Kept → Kept) (same : (k : Kept) → (f k).flow ≡ k.flow) where
       let n : flow_number (f k) ≡ flow_number k = ap (λ (g : Flow). g.number.0) (same k) in
       (subst (λ m. low ≤ m) (sym n) rising.0, subst (λ m. RisesTo flow_number (m + 1) high (map f ks)) (sym n) (rises_same (flow_number k + 1) high ks rising.1))
 
-  all_same : (high : ℕ) (ks : List Kept) → All (AreAttemptsBelow high) ks → All (AreAttemptsBelow high) (map f ks)
-  all_same high [] all = All-nil (AreAttemptsBelow high)
-  all_same high (k ∷ ks) all =
-      All-cons (AreAttemptsBelow high) (f k) (map f ks) (subst (λ (g : Flow). RisingTo 1 high g.attempts) (sym (same k)) (All-head (AreAttemptsBelow high) k ks all))
-      (all_same high ks (All-tail (AreAttemptsBelow high) k ks all))
+  -- what holds of each flow, whatever its revision
+  all_same : (P : Flow → Type 0) (ks : List Kept) → All (λ k. P k.flow) ks → All (λ k. P k.flow) (map f ks)
+  all_same P [] all = All-nil (λ (k : Kept). P k.flow)
+  all_same P (k ∷ ks) all =
+      All-cons (λ (k : Kept). P k.flow) (f k) (map f ks) (subst P (sym (same k)) (All-head (λ (k : Kept). P k.flow) k ks all))
+      (all_same P ks (All-tail (λ (k : Kept). P k.flow) k ks all))
 
   found_same : (task : TaskNo) (ks : List Kept) → option_map flow_number (flow_of_task task (map f ks)) ≡ option_map flow_number (flow_of_task task ks)
   found_same task [] = refl
@@ -185,12 +198,13 @@ module _ (f : Kept → Kept) (same : (k : Kept) → (f k).flow ≡ k.flow) where
       by_test true n rest = ap Some n
       by_test false n rest = rest
 
-  tied_same : (ks : List Kept) (index : List Placed) (next_flow next_task : ℕ) → AreTied ks index next_flow next_task → AreTied (map f ks) index next_flow next_task
+  pub tied_same : (ks : List Kept) (index : List Placed) (next_flow next_task : ℕ) → AreTied ks index next_flow next_task → AreTied (map f ks) index next_flow next_task
   tied_same ks index next_flow next_task tied = record {
     flows_rise = rises_same 1 next_flow ks tied.flows_rise;
-    attempts_rise = all_same next_task ks tied.attempts_rise;
+    attempts_rise = all_same (λ g. RisingTo 1 next_task g.attempts) ks tied.attempts_rise;
     rows_rise = tied.rows_rise;
     tells = λ t. tied.tells t ∙ sym (found_same t ks);
+    placed = all_same (λ g. (t : TaskNo) → is_some (attempt_numbered t g.attempts) ≡ true → placed_in t.0 index ≡ Some g.number.0) ks tied.placed;
     flow_numbers = tied.flow_numbers;
     task_numbers = tied.task_numbers;
   }

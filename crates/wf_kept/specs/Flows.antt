@@ -2,7 +2,8 @@
 use Rattle.std.specs.Prelude.{◌≡◌, ℕ, ◌+◌, ◌-◌, List, [], ◌∷◌, ◌++◌, length, map, if◌then◌else◌, Some}
 use Rattle.std.specs.Option.{option_map_or}
 use Rattle.wf_machine.specs.State.{Attempt, Flow, Kept, RisingTo}
-use Rattle.wf_machine.specs.Flows.{flow_numbered, is_concerned, is_flow, revised}
+use Rattle.wf_names.specs.declared.ids.FlowNo.{FlowNo}
+use Rattle.wf_machine.specs.Flows.{flow_numbered, is_concerned, is_flow, removed, revised}
 use Rattle.wf_kept.specs.declared.kept.KeptFlow.{KeptFlow}
 
 -- a flow as the machine keeps it: without the room that it has
@@ -53,6 +54,13 @@ pub record IsGrownFlow (table : FlowTable) (flow : Flow) (next_task : ℕ) : Typ
   pub found : flow_numbered flow.number table.kept ≡ Some old
   pub grown : IsGrown old.flow.attempts flow.attempts table.next_task next_task
 
+-- a flow of that number is kept, and this one has begun anew: all its attempts have numbers from `next_task` of the
+-- table, below the one given
+pub record IsAnewFlow (table : FlowTable) (flow : Flow) (next_task : ℕ) : Type 0 where
+  pub old : Kept
+  pub found : flow_numbered flow.number table.kept ≡ Some old
+  pub rising : RisingTo table.next_task next_task flow.attempts
+
 -- how many attempts the flow has more than the kept flow of its number
 abbrev pub new_attempts : Flow → List Kept → ℕ
 new_attempts flow flows = length flow.attempts - option_map_or attempt_count (flow_numbered flow.number flows) 0
@@ -68,6 +76,10 @@ revised_with place before now k = if is_concerned before now k.flow then record 
 -- the flows when the kept one of that number has become this one, by the entry at that place
 abbrev pub flow_changed : ℕ → Flow → List Kept → List Kept
 flow_changed place now flows = option_map_or (λ (before : Kept). map (revised place before.flow now) flows) (flow_numbered now.number flows) flows
+
+-- the flows without the kept one of that number, by the entry at that place
+abbrev pub flow_removed : ℕ → FlowNo → List Kept → List Kept
+flow_removed place number flows = option_map_or (λ (k : Kept). removed place k.flow flows) (flow_numbered number flows) flows
 
 -- flows of consecutive numbers without attempts: those that a decision starts
 abbrev pub AreStarted : ℕ → List Flow → Type 0

@@ -47,6 +47,16 @@ fn loses_parent(before: &Flow, now: &Flow, parent: (FlowNo, TaskNo)) -> bool
         && (stops_open(before, now, parent.1) || stops_there(before, now, parent.1))
 }
 
+/// The flow's attempt is one of the flow that goes.
+pub fn is_orphaned_by(gone: &Flow, other: &Flow) -> bool
+    ensures { result ≡ spec.is_concerned gone.now.flow (spec.emptied gone.now.flow) other.now.flow }
+{
+    match other.parent() {
+        Some(parent) => parent.0.0 == gone.number().0 && gone.attempt(parent.1).is_some(),
+        None => false,
+    }
+}
+
 fn stops_open(before: &Flow, now: &Flow, task: TaskNo) -> bool
     ensures { result ≡ spec.stops (spec.has_open task) before.now.flow now.now.flow }
 {

@@ -4,12 +4,12 @@ ghost use Rattle.std.specs.Prelude.{◌≡◌, ◌+◌, ◌<◌, ◌≤◌, ◌^
 ghost use Rattle.std.specs.List.{All};
 ghost use Rattle.std.specs.Option.{option_copied};
 ghost use Rattle.wf_machine.specs.State.{RisingTo};
-ghost use Rattle.wf_machine.specs.Flows.{flow_numbered, flow_of_task, is_concerned, new_kept};
-ghost use Rattle.wf_kept.specs.Flows.{AreAttemptsBelow, IsGrownFlow, IsKeptIn, AreStarted, all_kept, attempt_count, flow_changed, flow_number, kept, new_attempts, revised_with};
+ghost use Rattle.wf_machine.specs.Flows.{emptied, flow_numbered, flow_of_task, is_concerned, new_kept, removed};
+ghost use Rattle.wf_kept.specs.Flows.{AreAttemptsBelow, IsAnewFlow, IsGrownFlow, IsKeptIn, AreStarted, all_kept, attempt_count, flow_changed, flow_number, flow_removed, kept, new_attempts, revised_with};
 ghost use Rattle.wf_kept.specs.Rising.{IsPlaceOf, Rises, RisesTo};
 
-use crate::concerned::is_concerned;
-use crate::index::{Placed, add_rows, flow_of};
+use crate::concerned::{is_concerned, is_orphaned_by};
+use crate::index::{Placed, add_rows, drop_rows, flow_of};
 use crate::kept::KeptFlow;
 use crate::no_memory::NoMemory;
 use crate::roomy::Roomy;
@@ -182,6 +182,67 @@ impl KeptFlows {
             add_rows(&mut self.index, flow.number(), flow.attempts(), known);
             put(&mut self.flows, place, flow, revision);
             self.next_task = next_task;
+        }
+    }
+
+    /// Keeps a flow in place of that of its number, without the attempts that this had: those of the flow have numbers
+    /// from the next one on, below `next_task`, which is the next one from then on. The children of the flow are revised.
+    /// It takes no memory.
+    pub fn replace_anew(&mut self, flow: Flow, revision: u64, next_task: u64)
+        requires anew { IsAnewFlow self.old flow.flow next_task }
+        requires limit { next_task ≤ 2 ^ 56 }
+        requires room { length flow.flow.attempts ≤ self.old.spare_tasks }
+        ensures kept { self.new.kept ≡ flow_changed revision flow.flow self.old.kept }
+        ensures next_flow { self.new.next_flow ≡ self.old.next_flow }
+        ensures next_task { self.new.next_task ≡ next_task }
+        ensures spare_flows { self.new.spare_flows ≡ self.old.spare_flows }
+        ensures spare_tasks { self.old.spare_tasks ≤ self.new.spare_tasks + length flow.flow.attempts }
+    {
+        if let Some(place) = place_of(self.flows.as_slice(), flow.number()) {
+            drop_rows(&mut self.index, flow.number());
+            add_rows(&mut self.index, flow.number(), flow.attempts(), 0);
+            put(&mut self.flows, place, flow, revision);
+            self.next_task = next_task;
+        }
+    }
+
+    /// Takes the flow of that number out, with its attempts; its children are revised. It takes no memory.
+    pub fn remove(&mut self, number: FlowNo, revision: u64)
+        ensures kept { self.new.kept ≡ flow_removed revision number self.old.kept }
+        ensures next_flow { self.new.next_flow ≡ self.old.next_flow }
+        ensures next_task { self.new.next_task ≡ self.old.next_task }
+        ensures spare_flows { self.old.spare_flows ≤ self.new.spare_flows }
+        ensures spare_tasks { self.old.spare_tasks ≤ self.new.spare_tasks }
+    {
+        if let Some(place) = place_of(self.flows.as_slice(), number) {
+            drop_rows(&mut self.index, number);
+            take_out(&mut self.flows, place, revision);
+        }
+    }
+}
+
+/// Takes the flow at that place out, and revises its children.
+fn take_out(flows: &mut Roomy<KeptFlow>, place: usize, revision: u64)
+    requires rises { Rises flow_number (all_kept flows.old.items) }
+    requires there { place < length flows.old.items }
+    ensures items { IfSome (slice_get (all_kept flows.old.items) place)
+        (λ gone. all_kept flows.new.items ≡ removed revision gone.flow (all_kept flows.old.items)) }
+    ensures room { flows.old.spare ≤ flows.new.spare }
+{
+    let gone = flows.remove(place);
+    revise_children(flows, &gone.flow, revision);
+}
+
+/// Revises the flows that lose their parent's attempt where that flow goes.
+fn revise_children(flows: &mut Roomy<KeptFlow>, gone: &Flow, revision: u64)
+    ensures items { all_kept flows.new.items ≡ map (revised_with revision gone.now.flow (emptied gone.now.flow)) (all_kept flows.old.items) }
+    ensures room { flows.new.spare ≡ flows.old.spare }
+{
+    let mut left = flows.as_slice().len();
+    'flows: while left > 0 {
+        left -= 1;
+        if is_orphaned_by(gone, &flows.as_slice()[left].flow) {
+            flows.revise(left, revision);
         }
     }
 }

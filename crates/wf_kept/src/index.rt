@@ -1,8 +1,8 @@
 //! The index of attempts: the flow that each number is in.
 
-ghost use Rattle.std.specs.Prelude.{◌≡◌, ◌++◌, ◌+◌, ◌≤◌, drop, length, option_map, IfNone, IfSome, None};
+ghost use Rattle.std.specs.Prelude.{◌≡◌, ◌++◌, ◌+◌, ◌≤◌, drop, filter, length, option_map, IfNone, IfSome, None};
 ghost use Rattle.std.specs.List.{find};
-ghost use Rattle.wf_kept.specs.Index.{placed_in, placed_task, rows_of};
+ghost use Rattle.wf_kept.specs.Index.{is_elsewhere, placed_in, placed_task, rows_of};
 ghost use Rattle.wf_kept.specs.Rising.{IsPlaceOf, Rises};
 
 use crate::roomy::Roomy;
@@ -29,6 +29,14 @@ pub fn add_rows(index: &mut Roomy<Placed>, flow: FlowNo, attempts: &[Attempt], f
             flow,
         });
     }
+}
+
+/// Takes the rows of the flow's attempts out.
+pub fn drop_rows(index: &mut Roomy<Placed>, flow: FlowNo)
+    ensures items { index.new.items ≡ filter (is_elsewhere flow) index.old.items }
+    ensures room { index.old.spare ≤ index.new.spare }
+{
+    index.items.retain(|placed| placed.flow.0 != flow.0);
 }
 
 /// The flow that the attempt is in.

@@ -82,7 +82,7 @@ pub fn forget(defs: &mut Roomy<FlowDef>, name: &str, version: u32)
     ensures { defs.new.items ≡ without_flow_def name.now version defs.old.items }
 {
     if let Some(at) = place_named(defs.as_slice(), name, version) {
-        defs.remove(at);
+        drop(defs.remove(at));
     }
 }
 

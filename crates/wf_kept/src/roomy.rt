@@ -69,13 +69,14 @@ impl<T: Drop> Roomy<T> {
         let _ = self.items.insert(at, item);
     }
 
-    /// Takes the item at that place out.
-    pub fn remove(&mut self, at: usize)
+    /// Takes the item at that place out, and gives it back.
+    pub fn remove(&mut self, at: usize) -> T
         requires { at < length self.old.items }
+        ensures item { slice_get self.old.items at ≡ Some result }
         ensures items { self.new.items ≡ remove self.old.items at }
         ensures room { self.old.spare ≤ self.new.spare }
     {
-        let _ = self.items.remove(at);
+        self.items.remove(at)
     }
 
     pub fn set(&mut self, at: usize, item: T)

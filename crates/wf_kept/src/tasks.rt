@@ -48,7 +48,7 @@ pub fn forget_task(defs: &mut Roomy<TaskDef>, name: &str)
     ensures { defs.new.items ≡ without_task_def name.now defs.old.items }
 {
     if let Some(at) = place_named(defs.as_slice(), name) {
-        defs.remove(at);
+        drop(defs.remove(at));
     }
 }
 

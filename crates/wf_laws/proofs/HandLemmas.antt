@@ -2,7 +2,6 @@
 use Rattle.std.proofs.Common.{◌≡◌, ℕ, ◌+◌, ◌<◌, ◌≤◌, max, Bool, true, false, not, if◌then◌else◌, is_some, ◌==◌, ◌&&◌, ◌||◌, All, List, [], ◌∷◌, ◌++◌, map, Option, None, Some, ◌⊎◌, inl, inr, refl, sym, ap, ◌∙◌, subst, arith}
 use Rattle.std.proofs.lemmas.Bool.{cases_lt}
 use Rattle.std.proofs.lemmas.Bool.Decides.{nat_tests}
-use Rattle.std.proofs.lemmas.List.{append-nil}
 use Rattle.std.proofs.lemmas.List.Elements.{All-append, All-cons, All-head, All-nil, All-tail}
 use Rattle.std.specs.Prelude.{filter, option_map}
 use Rattle.std.specs.List.{find}
@@ -20,25 +19,29 @@ use Rattle.wf_machine.specs.declared.definition.FlowDef.{FlowDef}
 use Rattle.wf_machine.specs.declared.definition.TaskDef.{TaskDef}
 use Rattle.wf_machine.specs.declared.calling.TaskResult.{TaskResult}
 use Rattle.wf_steps.specs.declared.calling.Call.{Call}
-use Rattle.wf_steps.specs.declared.calling.Call.TheVariants.{PutTaskDefs, UpdateTaskDef, TaskDefs, TaskDefNamed, DropTaskDef, AddFlowDef, PutFlowDefs, FlowDefs, FlowDefNamed, DropFlowDef, Start, GetFlow, Running, Poll, GetTask, Update, Decide, Sweep}
+use Rattle.wf_steps.specs.declared.calling.Call.TheVariants.{PutTaskDefs, UpdateTaskDef, TaskDefs, TaskDefNamed, DropTaskDef, AddFlowDef, PutFlowDefs, FlowDefs, FlowDefNamed, DropFlowDef, Start, GetFlow, Running, Poll, GetTask, Update, Decide, Sweep, Operate, Remove, Shutdown, Look, Drain}
 use Rattle.wf_steps.specs.declared.calling.Entry.{Entry}
+use Rattle.wf_steps.specs.declared.operation.Operation.{Operation}
 use Rattle.wf_machine.specs.declared.calling.Reply.{Reply}
 use Rattle.wf_machine.specs.declared.calling.Reply.TheVariants.{Nothing}
 use Rattle.wf_machine.specs.State.{Attempt, Flow, Kept, State, RisingTo, attempt_numbered, is_numbered, new_flow, with_attempt}
 use Rattle.wf_machine.specs.Records.{Each, Held, is_kind_at, is_scheduled, is_simple}
-use Rattle.wf_machine.specs.Flows.{flow_numbered, flow_of_task, has_attempt, is_flow, new_kept, revised}
+use Rattle.wf_machine.specs.Flows.{flow_numbered, flow_of_task, has_attempt, is_flow, new_kept, removed}
 use Rattle.wf_machine.specs.Naming.{with_template}
+use Rattle.wf_machine.specs.Operators.{first_refusal, remove_refusals}
 use Rattle.wf_machine.specs.Queues.{Waiting, all_waiting, earlier, comes_before, first_waiting, is_ready, next_waiting, waiting_in}
 use Rattle.wf_machine.specs.Registered.{task_def_named, flow_def_at, flow_def_for}
 use Rattle.wf_machine.specs.Tasks.{goes_on, handed_out, is_result_status, result_applied, result_noted, takes_update}
 use Rattle.wf_rules.specs.Acts.{Turn}
 use Rattle.wf_rules.specs.Plans.{turn_at}
-use Rattle.wf_steps.specs.Calls.{Stepped, stepped, IsProper, call_made, put_task_defs, update_task_def, drop_task_def, get_task_def, register, put_flow_defs, drop_flow_def, get_flow_def, get_running, start, start_of, started, refused, is_full, is_too_long, is_settled, decided, with_decided, settle, needs, decide_flow, sweep, get_flow, get_task, poll, hand_over, update, update_of, is_wanted, task_updated, settled_with, step}
+use Rattle.wf_steps.specs.Calls.{Stepped, stepped, IsProper, call_made, put_task_defs, update_task_def, drop_task_def, get_task_def, register, put_flow_defs, drop_flow_def, get_flow_def, get_running, start, start_of, started, refused, is_full, is_too_long, is_settled, decided, with_decided, settle, needs, decide_flow, sweep, get_flow, get_task, poll, hand_over, update, update_of, is_wanted, task_updated, settled_with, or_refused, operation_refusals, operated, next_after, stops_flow, with_undecided, with_operated, operate, is_parent_kept, remove, step}
 use Rattle.wf_steps.specs.History.{state_from}
 use Rattle.wf_laws.specs.HandOuts.{HandsOut, handed_by, is_accepted, is_in_progress, is_told_on, tells_on}
-use Rattle.wf_laws.specs.Sound.{IsSound, IsSoundFlow}
+use Rattle.wf_laws.specs.Sound.{IsLater, IsSound, IsSoundFlow}
 use Rattle.wf_rules.proofs.MakeLemmas.{rising_through}
-use Rattle.wf_laws.proofs.SoundLemmas.{IsChanged, IsLeft, Stands, count, count_all, count_ahead, count_all_append, counts_tally, one, one_if, one_numbered, decided_count, decided_left, left_count, left_sound, rise_append, unchanged}
+use Rattle.wf_laws.proofs.LaterLemmas.{later_still, left_later, new_later, removed_later, same_later}
+use Rattle.wf_laws.proofs.OperatorLemmas.{next_later, operated_changed, operated_count, removed_count, removed_sound, stopped_next}
+use Rattle.wf_laws.proofs.SoundLemmas.{IsChanged, IsLeft, Stands, count, count_all, count_ahead, count_all_append, counts_tally, one, one_if, one_numbered, decided_count, decided_left, left_count, left_raised, left_sound, raised, raised_sound, rise_append, unchanged, undecided_left}
 
 -- ---- attempts that were handed out
 
@@ -47,9 +50,10 @@ record IsOut (task : TaskNo) (s : State) : Type 0 where
   waits : count_all false task s.flows ≡ 0
   old : task.0 < s.next_task
 
--- the second state is sound, and those attempts that were handed out are so still
+-- the second state is sound and later, and those attempts that were handed out are so still
 record Leads (s t : State) (On : TaskNo → Type 0) : Type 0 where
   sound : IsSound t
+  later : IsLater s t
   out : (task : TaskNo) → On task → IsOut task s → IsOut task t
 
 -- a state with the same flows and next numbers
@@ -61,6 +65,7 @@ keeps {On} {s} {t} sound flows next_flow next_task = record {
     flows = rw (flows, next_task) sound.flows;
     once = λ task. rw flows (sound.once task);
   };
+  later = same_later flows next_flow next_task;
   out = λ task on h. record { waits = rw flows h.waits; old = rw next_task h.old };
 }
 
@@ -69,6 +74,7 @@ left_leads : {On : TaskNo → Type 0} (place : ℕ) (before : Flow) (s t : State
     → ((task : TaskNo) → On task → task.0 < s.next_task → count false task turn.flow.attempts ≤ count false task k.flow.attempts) → Leads s t On
 left_leads {On} place before s t k turn sound left few fewer = record {
   sound = left_sound place before s t k turn sound left few;
+  later = left_later place before s t k turn sound left few;
   out = λ task on h.
       let swap = left_count place before s t k turn sound left false task in
       let was = h.waits in
@@ -79,18 +85,29 @@ left_leads {On} place before s t k turn sound left few fewer = record {
       record { waits = omega (arith, swap, was, fall); old = omega (arith, old, more, next) };
 }
 
+-- numbers below `more` are passed over, and the flow that is so now is decided
+raised_leads : {On : TaskNo → Type 0} (limits : Limits) (place e more : ℕ) (before now : Flow) (s : State) (k : Kept) → s.next_task ≤ more → IsSound s → IsChanged (raised more s) k now
+    → ((task : TaskNo) → task.0 < s.next_task → count true task now.attempts ≤ count true task k.flow.attempts)
+    → ((task : TaskNo) → On task → task.0 < s.next_task → count false task now.attempts ≤ count false task k.flow.attempts)
+    → Leads s (with_decided limits place e before now (raised more s)) On
+raised_leads {On} limits place e more before now s k order sound changed few fewer =
+    left_leads place before s (with_decided limits place e before now (raised more s)) k (decided limits e now (raised more s)) sound
+    (left_raised more place before s (with_decided limits place e before now (raised more s)) k (decided limits e now (raised more s)) order
+    (decided_left limits place e before now (raised more s) k (raised_sound more s order sound) changed))
+    (λ task old. let a = decided_count limits place e before now (raised more s) true task (omega (arith, old, order)) in let b = few task old in omega (arith, a, b))
+    (λ task on old. let a = decided_count limits place e before now (raised more s) false task (omega (arith, old, order)) in let b = fewer task on old in omega (arith, a, b))
+
 decided_leads : {On : TaskNo → Type 0} (limits : Limits) (place e : ℕ) (before now : Flow) (s : State) (k : Kept) → IsSound s → IsChanged s k now
+    → ((task : TaskNo) → count true task now.attempts ≤ count true task k.flow.attempts)
     → ((task : TaskNo) → On task → count false task now.attempts ≤ count false task k.flow.attempts) → Leads s (with_decided limits place e before now s) On
-decided_leads {On} limits place e before now s k sound changed fewer =
-    left_leads place before s (with_decided limits place e before now s) k (decided limits e now s) sound (decided_left limits place e before now s k sound changed)
-    (λ task old. let a = decided_count limits place e before now s true task old in let b = changed.few task in omega (arith, a, b))
-    (λ task on old. let a = decided_count limits place e before now s false task old in let b = fewer task on in omega (arith, a, b))
+decided_leads {On} limits place e before now s k sound changed few fewer =
+    raised_leads limits place e s.next_task before now s k (omega arith) sound changed (λ task old. few task) (λ task on old. fewer task on)
 
 settle_leads : {On : TaskNo → Type 0} (limits : Limits) (place e : ℕ) (s : State) (k : Kept) → IsSound s → Stands k s.flows → Leads s (settle limits place e k.flow s) On
 settle_leads {On} limits place e s k sound stands = by_test (is_settled limits e s k.flow) where
   by_test : (b : Bool) → Leads s (if b then s else with_decided limits place e k.flow k.flow s) On
   by_test true = keeps sound refl refl refl
-  by_test false = decided_leads limits place e k.flow k.flow s k sound (unchanged s k sound stands) (λ task on. omega arith)
+  by_test false = decided_leads limits place e k.flow k.flow s k sound (unchanged s k sound stands) (λ task. omega arith) (λ task on. omega arith)
 
 -- ---- one attempt in place of that of its number
 
@@ -122,7 +139,6 @@ with_changed s k b sound stands =
       number = refl;
       parent = refl;
       rising = with_rising 1 s.next_task b k.flow.attempts was.rising;
-      few = λ task. with_numbers task b k.flow.attempts;
     }
 
 -- ---- what waits
@@ -226,18 +242,7 @@ module _ (place e : ℕ) (name worker : List ℕ) (s : State) (sound : IsSound s
 
   handed_left : IsLeft place w.flow s (hand_over place e name worker w s).state was_kept given_turn
   handed_left =
-      let changed = with_changed s was_kept (handed_out e worker w.attempt) sound h.stands in
-      record {
-        flows = sym (append-nil (map (revised place w.flow with_given) s.flows));
-        next_flow = refl;
-        next_task = refl;
-        stands = h.stands;
-        number = refl;
-        parent = refl;
-        tasks = omega arith;
-        rising = changed.rising;
-        born = omega arith;
-      }
+      undecided_left place w.flow with_given s (hand_over place e name worker w s).state was_kept (with_changed s was_kept (handed_out e worker w.attempt) sound h.stands) refl refl refl
 
   handed_leads : {On : TaskNo → Type 0} → Leads s (hand_over place e name worker w s).state On
   handed_leads {On} =
@@ -312,6 +317,10 @@ follows_found : {T : Type 0} (P : T → Type 0) (call : Call) (s : State) (o : O
 follows_found P call s None f x held p q = q
 follows_found P call s (Some v) f x held p q = p v held
 
+follows_refused : (call : Call) (s : State) (o : Option Refusal) (made : Stepped) → IsSound s → Follows call s made → Follows call s (or_refused o made s)
+follows_refused call s None made sound p = p
+follows_refused call s (Some refusal) made sound p = keeps sound refl refl refl
+
 -- ---- updates
 
 -- the number stays, and only an attempt that goes on is SCHEDULED
@@ -364,7 +373,7 @@ settled_follows : (limits : Limits) (place e : ℕ) (wanted : Option FlowNo) (nu
 settled_follows limits place e wanted number outcome k a s sound stands same =
     let simple = is_kind_at is_simple k.flow.def a.node in
     let applied = result_applied e simple outcome a in
-    decided_leads limits place e k.flow (record k.flow { attempts = with_attempt applied k.flow.attempts }) s k sound (with_changed s k applied sound stands)
+    decided_leads limits place e k.flow (record k.flow { attempts = with_attempt applied k.flow.attempts }) s k sound (with_changed s k applied sound stands) (λ task. with_numbers task applied k.flow.attempts)
     (λ task on. with_count false task applied k.flow.attempts (λ x is. let none = applied_waits e simple outcome a task number same on.0.0 on.1 in omega (arith, none)))
 
 task_follows : (limits : Limits) (place e : ℕ) (wanted : Option FlowNo) (number : TaskNo) (outcome : TaskResult) (k : Kept) (a : Attempt) (s : State) → IsSound s → Stands k s.flows
@@ -414,8 +423,12 @@ module _ (place e : ℕ) (def : FlowDef) (input : Doc) (correlation : List ℕ) 
   started_leads {On} limits =
       let stands = new_stands s.flows in
       let more : Leads with_new (started limits place e def input correlation s).state On =
-      decided_leads limits place e flow_made flow_made with_new (new_kept place flow_made) new_sound (unchanged with_new (new_kept place flow_made) new_sound stands) (λ task on. omega arith) in
-      record { sound = more.sound; out = λ task on h. more.out task on (record { waits = new_count false task ∙ h.waits; old = h.old }) }
+      decided_leads limits place e flow_made flow_made with_new (new_kept place flow_made) new_sound (unchanged with_new (new_kept place flow_made) new_sound stands) (λ task. omega arith) (λ task on. omega arith) in
+      record {
+        sound = more.sound;
+        later = later_still (new_later place s flow_made refl refl) more.later;
+        out = λ task on h. more.out task on (record { waits = new_count false task ∙ h.waits; old = h.old });
+      }
 
 start_follows : (limits : Limits) (place e : ℕ) (call : Call) (o : Option FlowDef) (input : Doc) (correlation : List ℕ) (s : State) → IsSound s → Follows call s (start_of limits place e o input correlation s)
 start_follows limits place e call None input correlation s sound = keeps sound refl refl refl
@@ -424,6 +437,38 @@ start_follows limits place e call (Some def) input correlation s sound =
     follows_if call s (is_full limits s) _ _ (keeps sound refl refl refl)
     (follows_if call s (is_too_long limits filled) (refused DocumentLimit s) (started limits place e def filled correlation s) (keeps sound refl refl refl)
     (started_leads place e def filled correlation s sound limits))
+
+-- ---- what operators do
+
+module _ (limits : Limits) (place e : ℕ) (operation : Operation) (s : State) (k : Kept) (sound : IsSound s) (stands : Stands k s.flows) where
+  abbrev with_operation : Flow
+  with_operation = operated e s.next_task operation k.flow
+
+  operated_fewer : (all : Bool) (task : TaskNo) → task.0 < s.next_task → count all task with_operation.attempts ≤ count all task k.flow.attempts
+  operated_fewer all task old = operated_count all e s.next_task operation k.flow task old
+
+  undecided_leads : {On : TaskNo → Type 0} → next_after operation s.next_task ≡ s.next_task → Leads s (with_undecided place e k.flow with_operation s) On
+  undecided_leads {On} same =
+      left_leads place k.flow s (with_undecided place e k.flow with_operation s) k (turn_at with_operation (record { flow = s.next_flow; task = s.next_task })) sound
+      (undecided_left place k.flow with_operation s (with_undecided place e k.flow with_operation s) k
+      (subst (λ n. IsChanged (raised n s) k with_operation) same (operated_changed e operation s k sound stands)) refl refl refl)
+      (operated_fewer true) (λ task on old. operated_fewer false task old)
+
+  operated_leads : {On : TaskNo → Type 0} → Leads s (with_operated limits place e operation k.flow s) On
+  operated_leads {On} = by_test (stops_flow operation) refl where
+    by_test : (b : Bool) → stops_flow operation ≡ b
+        → Leads s (if b then with_undecided place e k.flow with_operation s else with_decided limits place e k.flow with_operation (raised (next_after operation s.next_task) s)) On
+    by_test true is = undecided_leads (stopped_next operation s.next_task is)
+    by_test false is =
+        raised_leads limits place e (next_after operation s.next_task) k.flow with_operation s k (next_later operation s.next_task) sound (operated_changed e operation s k sound stands)
+        (operated_fewer true) (λ task on old. operated_fewer false task old)
+
+removed_leads : {On : TaskNo → Type 0} (place e : ℕ) (s : State) (k : Kept) → IsSound s → Stands k s.flows → Leads s (record s { last = e; flows = removed place k.flow s.flows }) On
+removed_leads {On} place e s k sound stands = record {
+  sound = removed_sound place e s k sound stands;
+  later = removed_later place e s k sound stands;
+  out = λ task on h. (let fall = removed_count place e s k sound stands false task in let was = h.waits in record { waits = omega (arith, fall, was); old = h.old });
+}
 
 -- ---- all calls
 
@@ -440,7 +485,7 @@ read_follows call s None f r sound = keeps sound refl refl refl
 read_follows call s (Some x) f r sound = keeps sound refl refl refl
 
 call_follows : (limits : Limits) (place e : ℕ) (call : Call) (s : State) → IsSound s → Follows call s (call_made limits place e call s)
-unfolding register start get_flow get_task poll update update_task_def drop_task_def get_task_def get_flow_def drop_flow_def get_running decide_flow sweep needs
+unfolding register start get_flow get_task poll update update_task_def drop_task_def get_task_def get_flow_def drop_flow_def get_running decide_flow sweep needs operate remove
 call_follows limits place e (PutTaskDefs defs) s sound = tasks_follow (PutTaskDefs defs) place e defs s sound
 call_follows limits place e (UpdateTaskDef def) s sound =
     follows_if (UpdateTaskDef def) s (is_some (task_def_named def.name s.task_defs)) _ _ (keeps sound refl refl refl) (keeps sound refl refl refl)
@@ -473,6 +518,17 @@ call_follows limits place e (Decide number) s sound =
 call_follows limits place e Sweep s sound =
     follows_found (λ k. Stands k s.flows) Sweep s (needs limits e s) _ _ (find_stands (λ k. not (is_settled limits e s k.flow)) s.flows)
     (λ k there. settle_leads limits place e s k sound there) (keeps sound refl refl refl)
+call_follows limits place e (Operate number operation) s sound =
+    follows_found (λ k. Stands k s.flows) (Operate number operation) s (flow_numbered number s.flows) _ _ (find_stands (is_flow number) s.flows)
+    (λ k there. follows_refused (Operate number operation) s (first_refusal (operation_refusals limits s.next_task operation k.flow)) _ sound (operated_leads limits place e operation s k sound there))
+    (keeps sound refl refl refl)
+call_follows limits place e (Remove number) s sound =
+    follows_found (λ k. Stands k s.flows) (Remove number) s (flow_numbered number s.flows) _ _ (find_stands (is_flow number) s.flows)
+    (λ k there. follows_refused (Remove number) s (first_refusal (remove_refusals (is_parent_kept s k.flow) k.flow)) _ sound (removed_leads place e s k sound there))
+    (keeps sound refl refl refl)
+call_follows limits place e Shutdown s sound = keeps sound refl refl refl
+call_follows limits place e (Look number) s sound = keeps sound refl refl refl
+call_follows limits place e Drain s sound = keeps sound refl refl refl
 
 step_follows : (limits : Limits) (place : ℕ) (s : State) (entry : Entry) → IsSound s → Follows entry.call s (step limits place s entry)
 step_follows limits place s entry sound =
@@ -480,6 +536,9 @@ step_follows limits place s entry sound =
 
 pub step_sound : (limits : Limits) (place : ℕ) (s : State) (entry : Entry) → IsSound s → IsSound (step limits place s entry).state
 step_sound limits place s entry sound = (step_follows limits place s entry sound).sound
+
+pub step_later : (limits : Limits) (place : ℕ) (s : State) (entry : Entry) → IsSound s → IsLater s (step limits place s entry).state
+step_later limits place s entry sound = (step_follows limits place s entry sound).later
 
 -- ---- histories
 
@@ -503,6 +562,11 @@ polls e (GetTask number) s task h = cc
 polls e (Update wanted number outcome) s task h = cc
 polls e (Decide number) s task h = cc
 polls e Sweep s task h = cc
+polls e (Operate number operation) s task h = cc
+polls e (Remove number) s task h = cc
+polls e Shutdown s task h = cc
+polls e (Look number) s task h = cc
+polls e Drain s task h = cc
 
 -- what a poll hands out has waited, and waits no more
 poll_hands : (limits : Limits) (place e : ℕ) (name worker : List ℕ) (s : State) (task : TaskNo) → IsSound s → handed_by e (Poll name worker) s ≡ Some task

@@ -1,6 +1,6 @@
 -- Each flow that starts runs a registered definition, so the loops of all kept flows fit where those of all registered ones do.
 use Rattle.std.proofs.Common.{ℕ, zero, suc, ◌+◌, max, Bool, true, false, if◌then◌else◌, ◌&&◌, ◌||◌, not, nat_le, is_some, All, List, [], ◌∷◌, ◌++◌, map, length, Option, None, Some, codes, sym, subst, pos}
-use Rattle.std.proofs.lemmas.List.Elements.{All-append, All-cons, All-head, All-map, All-nil, All-tail}
+use Rattle.std.proofs.lemmas.List.Elements.{All-append, All-cons, All-filter, All-head, All-map, All-nil, All-tail}
 use Rattle.std.specs.Prelude.{option_map, option_and_then}
 use Rattle.std.specs.List.{find, list_any}
 use Rattle.std.specs.Option.{option_map_or}
@@ -20,8 +20,9 @@ use Rattle.wf_names.specs.declared.statuses.FlowStatus.{FlowStatus}
 use Rattle.wf_names.specs.declared.statuses.FlowStatus.TheVariants as flow
 use Rattle.wf_wire.specs.declared.limits.Limits.{Limits}
 use Rattle.wf_steps.specs.declared.calling.Call.{Call}
-use Rattle.wf_steps.specs.declared.calling.Call.TheVariants.{PutTaskDefs, UpdateTaskDef, TaskDefs, TaskDefNamed, DropTaskDef, AddFlowDef, PutFlowDefs, FlowDefs, FlowDefNamed, DropFlowDef, Start, GetFlow, Running, Poll as PollFor, GetTask, Update, Decide, Sweep}
+use Rattle.wf_steps.specs.declared.calling.Call.TheVariants.{PutTaskDefs, UpdateTaskDef, TaskDefs, TaskDefNamed, DropTaskDef, AddFlowDef, PutFlowDefs, FlowDefs, FlowDefNamed, DropFlowDef, Start, GetFlow, Running, Poll as PollFor, GetTask, Update, Decide, Sweep, Operate, Remove, Shutdown, Look, Drain}
 use Rattle.wf_steps.specs.declared.calling.Entry.{Entry}
+use Rattle.wf_steps.specs.declared.operation.Operation.{Operation}
 use Rattle.wf_machine.specs.declared.calling.Reply.{Reply}
 use Rattle.wf_machine.specs.declared.calling.TaskResult.{TaskResult}
 use Rattle.wf_machine.specs.declared.definition.Cases.{Cases'}
@@ -38,9 +39,10 @@ use Rattle.wf_machine.specs.declared.timed.TaskPolicy.TheVariants.{Retry, TimeOu
 use Rattle.wf_machine.specs.declared.timed.Timing.{Timing}
 use Rattle.wf_machine.specs.declared.walking.Next.{Next}
 use Rattle.wf_machine.specs.declared.walking.Next.TheVariants.{Schedule, Join as Joins, Turn as Turns, Waits, Done}
-use Rattle.wf_machine.specs.Flows.{flow_numbered, flow_of_task, has_attempt, is_concerned, is_flow, new_kept, revised}
+use Rattle.wf_machine.specs.Flows.{emptied, flow_numbered, flow_of_task, has_attempt, is_concerned, is_flow, is_other, new_kept, removed, revised}
 use Rattle.wf_machine.specs.Marks.{next_step, node_at}
 use Rattle.wf_machine.specs.Naming.{with_template}
+use Rattle.wf_machine.specs.Operators.{first_refusal, remove_refusals}
 use Rattle.wf_machine.specs.Queues.{next_waiting}
 use Rattle.wf_machine.specs.Records.{Each, Held, is_kind_at}
 use Rattle.wf_machine.specs.Registered.{definition_order, flow_def_at, flow_def_for, greater_version, is_named, is_version, newest_flow_def, task_def_named, with_flow_def, with_flow_defs, without_flow_def}
@@ -64,9 +66,10 @@ use Rattle.wf_rules.specs.Rules.{Room, after, all_done, allowed, by_policy, chil
 use Rattle.wf_rules.specs.Scheduling.{adding_one, attempt_at, child_at, counted_at, end_by, failed_at, fails, loop_at, named_end, refused_at, schedule, schedule_kind, schedule_task, sub_flow_at, wait_at, wait_here, within}
 use Rattle.wf_rules.specs.Sight.{Scene, Sight, scene_in, sight}
 use Rattle.wf_rules.proofs.EndLemmas.{made_def}
-use Rattle.wf_steps.specs.Calls.{Stepped, call_made, decide_flow, decided, drop_flow_def, drop_task_def, get_flow, get_flow_def, get_running, get_task, get_task_def, is_full, is_settled, is_too_long, is_wanted, needs, poll, put_flow_defs, put_task_defs, refused, register, settle, settled_with, start, start_of, started, step, stepped, sweep, task_updated, update, update_of, update_task_def, with_decided}
+use Rattle.wf_steps.specs.Calls.{Stepped, call_made, decide_flow, decided, drop_flow_def, drop_task_def, get_flow, get_flow_def, get_running, get_task, get_task_def, is_full, is_parent_kept, is_settled, is_too_long, is_wanted, needs, next_after, operate, operated, operation_refusals, or_refused, poll, put_flow_defs, put_task_defs, refused, register, remove, settle, settled_with, start, start_of, started, step, stepped, stops_flow, sweep, task_updated, update, update_of, update_task_def, with_decided, with_operated, with_undecided}
 use Rattle.wf_laws.specs.Sound.{BringsFitLoops, HasFitLoops}
 use Rattle.wf_laws.proofs.HandLemmas.{IsWaiting, next_waits}
+use Rattle.wf_laws.proofs.OperatorLemmas.{operated_stays}
 use Rattle.wf_laws.proofs.SoundLemmas.{all_stands}
 
 abbrev HasFit : FlowDef → Type 0
@@ -451,6 +454,24 @@ settle_fit limits place e s k fit keeps = by_test (is_settled limits e s k.flow)
   by_test true = fit
   by_test false = decided_fit limits place e k.flow k.flow s fit keeps
 
+operated_fit : (limits : Limits) (place e : ℕ) (operation : Operation) (s : State) (k : Kept) → HasFitLoops s → KeepsFit k → HasFitLoops (with_operated limits place e operation k.flow s)
+operated_fit limits place e operation s k fit keeps =
+    by_test (stops_flow operation) (operated e s.next_task operation k.flow) (subst HasFit (sym (operated_stays e s.next_task operation k.flow).2) keeps)
+  where
+    by_test : (b : Bool) (now : Flow) → RunsFit now
+        → HasFitLoops (if b then with_undecided place e k.flow now s else with_decided limits place e k.flow now (record s { next_task = next_after operation s.next_task }))
+    by_test true now runs = record { registered = fit.registered; kept = fit_revised place k.flow now s.flows runs fit.kept }
+    by_test false now runs =
+        decided_fit limits place e k.flow now (record s { next_task = next_after operation s.next_task }) (record { registered = fit.registered; kept = fit.kept }) runs
+
+removed_fit : (place e : ℕ) (s : State) (k : Kept) → HasFitLoops s → KeepsFit k → HasFitLoops (record s { last = e; flows = removed place k.flow s.flows })
+removed_fit place e s k fit keeps = record {
+  registered = fit.registered;
+  kept =
+      All-filter (is_other k.flow.number) KeepsFit (map (revised place k.flow (emptied k.flow)) s.flows)
+      (fit_revised place k.flow (emptied k.flow) s.flows keeps fit.kept);
+}
+
 -- ---- calls
 
 abbrev LeavesFit : Stepped → Type 0
@@ -463,6 +484,10 @@ fit_if false x y p q = q
 fit_found : {T : Type 0} (P : T → Type 0) (o : Option T) (f : T → Stepped) (x : Stepped) → Held P o → ((v : T) → P v → LeavesFit (f v)) → LeavesFit x → LeavesFit (option_map_or f o x)
 fit_found P None f x held p q = q
 fit_found P (Some v) f x held p q = p v held
+
+fit_refused : (s : State) (o : Option Refusal) (made : Stepped) → HasFitLoops s → LeavesFit made → LeavesFit (or_refused o made s)
+fit_refused s None made fit p = p
+fit_refused s (Some refusal) made fit p = fit
 
 fit_read : {T : Type 0} (s : State) (o : Option T) (f : T → Reply) (r : Refusal) → HasFitLoops s → LeavesFit (option_map_or (λ x. stepped s (f x)) o (refused r s))
 fit_read s None f r fit = fit
@@ -501,7 +526,7 @@ update_fit limits place e wanted number outcome (Some k) s fit held =
         (fit_if (not (is_kind_at takes_update k.flow.def a.node)) _ (settled_with limits place e outcome k.flow a s) fit (decided_fit limits place e k.flow _ s fit held))
 
 call_fit : (limits : Limits) (place e : ℕ) (call : Call) (s : State) → HasFitLoops s → BringsFitLoops call → LeavesFit (call_made limits place e call s)
-unfolding register start get_flow get_task poll update update_task_def drop_task_def get_task_def get_flow_def drop_flow_def get_running decide_flow sweep needs
+unfolding register start get_flow get_task poll update update_task_def drop_task_def get_task_def get_flow_def drop_flow_def get_running decide_flow sweep needs operate remove
 call_fit limits place e (PutTaskDefs defs) s fit new = put_tasks_fit place e defs s fit
 call_fit limits place e (UpdateTaskDef def) s fit new =
     fit_if (is_some (task_def_named def.name s.task_defs)) _ _ (record { registered = fit.registered; kept = fit.kept }) fit
@@ -532,6 +557,15 @@ call_fit limits place e (Decide number) s fit new =
     fit_found KeepsFit (flow_numbered number s.flows) _ _ (held_find KeepsFit (is_flow number) s.flows fit.kept) (λ k h. settle_fit limits place e s k fit h) fit
 call_fit limits place e Sweep s fit new =
     fit_found KeepsFit (needs limits e s) _ _ (held_find KeepsFit (λ k. not (is_settled limits e s k.flow)) s.flows fit.kept) (λ k h. settle_fit limits place e s k fit h) fit
+call_fit limits place e (Operate number operation) s fit new =
+    fit_found KeepsFit (flow_numbered number s.flows) _ _ (held_find KeepsFit (is_flow number) s.flows fit.kept)
+    (λ k h. fit_refused s (first_refusal (operation_refusals limits s.next_task operation k.flow)) _ fit (operated_fit limits place e operation s k fit h)) fit
+call_fit limits place e (Remove number) s fit new =
+    fit_found KeepsFit (flow_numbered number s.flows) _ _ (held_find KeepsFit (is_flow number) s.flows fit.kept)
+    (λ k h. fit_refused s (first_refusal (remove_refusals (is_parent_kept s k.flow) k.flow)) _ fit (removed_fit place e s k fit h)) fit
+call_fit limits place e Shutdown s fit new = fit
+call_fit limits place e (Look number) s fit new = fit
+call_fit limits place e Drain s fit new = fit
 
 pub step_fit : (limits : Limits) (place : ℕ) (s : State) (entry : Entry) → HasFitLoops s → BringsFitLoops entry.call → HasFitLoops (step limits place s entry).state
 step_fit limits place s entry fit new = fit_if entry.starved _ _ fit (call_fit limits place (max s.last entry.moment) entry.call s fit new)

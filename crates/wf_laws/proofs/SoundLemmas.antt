@@ -2,7 +2,9 @@
 use Rattle.std.proofs.Common.{◌≡◌, ℕ, zero, suc, ◌+◌, ◌<◌, ◌≤◌, Bool, true, false, if◌then◌else◌, ◌&&◌, ◌||◌, All, List, [], ◌∷◌, ◌++◌, map, length, Option, Some, ◌⊎◌, inl, inr, refl, sym, ap, ◌∙◌, subst, arith}
 use Rattle.std.proofs.lemmas.Bool.{cases_lt}
 use Rattle.std.proofs.lemmas.Bool.Decides.{nat_tests}
-use Rattle.std.proofs.lemmas.List.Elements.{All-append, All-cons, All-head, All-nil, All-tail}
+use Rattle.std.specs.Prelude.{filter}
+use Rattle.std.proofs.lemmas.List.{append-nil}
+use Rattle.std.proofs.lemmas.List.Elements.{All-append, All-cons, All-head, All-nil, All-tail, All-weaker}
 use Rattle.wf_doc.specs.declared.doc.Doc.{Doc}
 use Rattle.wf_names.specs.TaskStatus.{task_is_open}
 use Rattle.wf_names.specs.declared.ids.TaskNo.{TaskNo}
@@ -52,13 +54,20 @@ pub counts_tally : (task : TaskNo) (ks : List Kept) → count_all true task ks �
 counts_tally task [] = refl
 counts_tally task (k ∷ ks) = rw (counts_tally_in task k.flow.attempts, counts_tally task ks) refl
 
-count_append : (all : Bool) (task : TaskNo) (xs ys : List Attempt) → count all task (xs ++ ys) ≡ count all task xs + count all task ys
+pub count_append : (all : Bool) (task : TaskNo) (xs ys : List Attempt) → count all task (xs ++ ys) ≡ count all task xs + count all task ys
 count_append all task [] ys = omega arith
 count_append all task (x ∷ xs) ys = let h = count_append all task xs ys in omega (arith, h)
 
 pub count_all_append : (all : Bool) (task : TaskNo) (xs ys : List Kept) → count_all all task (xs ++ ys) ≡ count_all all task xs + count_all all task ys
 count_all_append all task [] ys = omega arith
 count_all_append all task (x ∷ xs) ys = let h = count_all_append all task xs ys in omega (arith, h)
+
+pub count_filter : (all : Bool) (task : TaskNo) (p : Kept → Bool) (ks : List Kept) → count_all all task (filter p ks) ≤ count_all all task ks
+count_filter all task p [] = omega arith
+count_filter all task p (x ∷ xs) = by_test (p x) (count_filter all task p xs) where
+  by_test : (b : Bool) → count_all all task (filter p xs) ≤ count_all all task xs → count_all all task (if b then x ∷ filter p xs else filter p xs) ≤ count_all all task (x ∷ xs)
+  by_test true more = omega (arith, more)
+  by_test false more = omega (arith, more)
 
 pub one_numbered : (all : Bool) (task : TaskNo) (a : Attempt) → is_numbered task a ≡ false → one all task a ≡ 0
 one_numbered all task a h = rw h (by_tests (all || is_scheduled a.status)) where
@@ -140,6 +149,9 @@ canceled_tame e a = by_open (task_is_open a.status) where
   by_open true = record { number = refl; scheduled = λ x. cc }
   by_open false = record { number = refl; scheduled = λ x. x }
 
+pub count_canceled : (all : Bool) (task : TaskNo) (e : ℕ) (xs : List Attempt) → count all task (map (canceled e) xs) ≤ count all task xs
+count_canceled all task e xs = count_through all task (canceled e) xs (λ a. canceled_tame e a)
+
 -- acts give a number that was given before to no attempt, and make none of those SCHEDULED
 make_count : (all : Bool) (e : ℕ) (task : TaskNo) (act : Act) (t : Turn) → task.0 < t.next_task → count all task (make e act t).flow.attempts ≤ count all task t.flow.attempts
 make_count all e task (Add n) t old =
@@ -153,7 +165,7 @@ make_count all e task (Forgive p) t old = count_at all task p (forgiven e) t.flo
 make_count all e task (TurnOn p out turn) t old = count_at all task p (turned e out turn) t.flow.attempts (λ a. record { number = refl; scheduled = λ x. x })
 make_count all e task (Variables v) t old = omega arith
 make_count all e task (NoteFlow r) t old = omega arith
-make_count all e task (End s r out) t old = count_through all task (canceled e) t.flow.attempts (λ a. canceled_tame e a)
+make_count all e task (End s r out) t old = count_canceled all task e t.flow.attempts
 
 make_grows : (e : ℕ) (act : Act) (t : Turn) → t.next_task ≤ (make e act t).next_task
 make_grows e act t = let h = made_tasks e (act ∷ []) t in omega (arith, h)
@@ -169,7 +181,7 @@ made_count all e task (act ∷ rest) t old =
 -- ---- flows that start
 
 -- they have no attempts yet, and each is nested in one of a lower number
-abbrev AreBorn : ℕ → ℕ → List Flow → Type 0
+abbrev pub AreBorn : ℕ → ℕ → List Flow → Type 0
 AreBorn low high [] = low ≤ high
 AreBorn low high (f ∷ fs) = (low ≤ f.number.0) × (f.attempts ≡ []) × Held (λ p. p.0.0 < f.number.0) f.parent × AreBorn (f.number.0 + 1) high fs
 
@@ -248,7 +260,7 @@ all_stands P k [] each there = absurd there
 all_stands P k (x ∷ xs) each (inl same) = subst P same (All-head P x xs each)
 all_stands P k (x ∷ xs) each (inr there) = all_stands P k xs (All-tail P x xs each) there
 
-rise_least : (low high : ℕ) (ks : List Kept) → FlowsRise low high ks → low ≤ high
+pub rise_least : (low high : ℕ) (ks : List Kept) → FlowsRise low high ks → low ≤ high
 rise_least low high [] rise = rise
 rise_least low high (x ∷ xs) rise = let le = rise.0 in let h = rise_least (x.flow.number.0 + 1) high xs rise.1 in omega (arith, le, h)
 
@@ -271,7 +283,14 @@ pub rise_append : (low mid high : ℕ) (ks ls : List Kept) → FlowsRise low mid
 rise_append low mid high [] ls below above = rise_lower low mid high ls below above
 rise_append low mid high (x ∷ xs) ls below above = (below.0, rise_append (x.flow.number.0 + 1) mid high xs ls below.1 above)
 
-born_rise : (place low high : ℕ) (fs : List Flow) → AreBorn low high fs → FlowsRise low high (map (new_kept place) fs)
+pub rise_filter : (p : Kept → Bool) (low high : ℕ) (ks : List Kept) → FlowsRise low high ks → FlowsRise low high (filter p ks)
+rise_filter p low high [] rise = rise
+rise_filter p low high (x ∷ xs) rise = by_test (p x) (rise_filter p (x.flow.number.0 + 1) high xs rise.1) where
+  by_test : (b : Bool) → FlowsRise (x.flow.number.0 + 1) high (filter p xs) → FlowsRise low high (if b then x ∷ filter p xs else filter p xs)
+  by_test true more = (rise.0, more)
+  by_test false more = let le = rise.0 in rise_lower low (x.flow.number.0 + 1) high (filter p xs) (omega (arith, le)) more
+
+pub born_rise : (place low high : ℕ) (fs : List Flow) → AreBorn low high fs → FlowsRise low high (map (new_kept place) fs)
 born_rise place low high [] born = born
 born_rise place low high (f ∷ fs) born = (born.0, born_rise place (f.number.0 + 1) high fs born.3)
 
@@ -301,7 +320,7 @@ revised_other place before now x is = rw is (by_test (is_concerned before now x.
   by_test true = refl
   by_test false = refl
 
-revised_number : (place : ℕ) (before now : Flow) (x : Kept) → (revised place before now x).flow.number.0 ≡ x.flow.number.0
+pub revised_number : (place : ℕ) (before now : Flow) (x : Kept) → (revised place before now x).flow.number.0 ≡ x.flow.number.0
 revised_number place before now x = by_test (is_flow now.number x) refl where
   by_test : (b : Bool) → is_flow now.number x ≡ b → (revised place before now x).flow.number.0 ≡ x.flow.number.0
   by_test true is =
@@ -309,7 +328,7 @@ revised_number place before now x = by_test (is_flow now.number x) refl where
       ap (λ f. f.number.0) (revised_now place before now x is) ∙ same
   by_test false is = ap (λ f. f.number.0) (revised_other place before now x is)
 
-rise_revised : (place : ℕ) (before now : Flow) (low high : ℕ) (ks : List Kept) → FlowsRise low high ks → FlowsRise low high (map (revised place before now) ks)
+pub rise_revised : (place : ℕ) (before now : Flow) (low high : ℕ) (ks : List Kept) → FlowsRise low high ks → FlowsRise low high (map (revised place before now) ks)
 rise_revised place before now low high [] rise = rise
 rise_revised place before now low high (x ∷ xs) rise =
     rw (revised_number place before now x) (rise.0, rise_revised place before now (x.flow.number.0 + 1) high xs rise.1)
@@ -323,7 +342,7 @@ sound_as n k l same h = record {
 sound_later : (n m : ℕ) (k : Kept) → n ≤ m → IsSoundFlow n k → IsSoundFlow m k
 sound_later n m k order h = record { rising = rising_higher 1 n m k.flow.attempts h.rising order; parent = h.parent }
 
-sound_revised : (place : ℕ) (before now : Flow) (n m : ℕ) (ks : List Kept) → n ≤ m → IsSoundFlow m (new_kept place now) → All (IsSoundFlow n) ks → All (IsSoundFlow m) (map (revised place before now) ks)
+pub sound_revised : (place : ℕ) (before now : Flow) (n m : ℕ) (ks : List Kept) → n ≤ m → IsSoundFlow m (new_kept place now) → All (IsSoundFlow n) ks → All (IsSoundFlow m) (map (revised place before now) ks)
 sound_revised place before now n m [] order new each = All-nil (IsSoundFlow m)
 sound_revised place before now n m (x ∷ xs) order new each =
     All-cons (IsSoundFlow m) (revised place before now x) (map (revised place before now) xs)
@@ -345,7 +364,7 @@ count_unmoved all task place before now low high (x ∷ xs) rise below =
     omega (arith, same, more)
 
 -- the attempts of one flow are counted in place of those of the other
-count_swapped : (all : Bool) (task : TaskNo) (place : ℕ) (before now : Flow) (low high : ℕ) (k : Kept) (ks : List Kept) → FlowsRise low high ks → Stands k ks → now.number ≡ k.flow.number
+pub count_swapped : (all : Bool) (task : TaskNo) (place : ℕ) (before now : Flow) (low high : ℕ) (k : Kept) (ks : List Kept) → FlowsRise low high ks → Stands k ks → now.number ≡ k.flow.number
     → count_all all task (map (revised place before now) ks) + count all task k.flow.attempts ≡ count_all all task ks + count all task now.attempts
 count_swapped all task place before now low high k [] rise there number = absurd there
 count_swapped all task place before now low high k (x ∷ xs) rise (inl same) number =
@@ -431,6 +450,38 @@ module _ (place : ℕ) (before : Flow) (s t : State) (k : Kept) (turn : Turn) (s
         let swap = left_count true task in
         omega (arith, none, once, swap)
 
+-- ---- numbers that are passed over
+
+-- the state, with that number for the next attempt
+abbrev pub raised : ℕ → State → State
+raised more s = record s { next_task = more }
+
+pub raised_sound : (more : ℕ) (s : State) → s.next_task ≤ more → IsSound s → IsSound (raised more s)
+raised_sound more s order sound =
+    let from_one = sound.from_one in
+    record {
+      rise = sound.rise;
+      from_one = omega (arith, order, from_one);
+      flows = All-weaker (IsSoundFlow s.next_task) (IsSoundFlow more) (λ k h. sound_later s.next_task more k order h) s.flows sound.flows;
+      once = sound.once;
+    }
+
+-- what came of the state with a greater number came of the state
+pub left_raised : (more place : ℕ) (before : Flow) (s t : State) (k : Kept) (turn : Turn) → s.next_task ≤ more → IsLeft place before (raised more s) t k turn → IsLeft place before s t k turn
+left_raised more place before s t k turn order left =
+    let tasks = left.tasks in
+    record {
+      flows = left.flows;
+      next_flow = left.next_flow;
+      next_task = left.next_task;
+      stands = left.stands;
+      number = left.number;
+      parent = left.parent;
+      tasks = omega (arith, order, tasks);
+      rising = left.rising;
+      born = left.born;
+    }
+
 -- ---- decisions
 
 -- a flow as the call has it, in place of one that is kept
@@ -439,11 +490,26 @@ pub record IsChanged (s : State) (k : Kept) (now : Flow) : Type 0 where
   pub number : now.number ≡ k.flow.number
   pub parent : now.parent ≡ k.flow.parent
   pub rising : RisingTo 1 s.next_task now.attempts
-  pub few : (task : TaskNo) → count true task now.attempts ≤ count true task k.flow.attempts
 
 pub unchanged : (s : State) (k : Kept) → IsSound s → Stands k s.flows → IsChanged s k k.flow
 unchanged s k sound stands =
-    record { stands = stands; number = refl; parent = refl; rising = (all_stands (IsSoundFlow s.next_task) k s.flows sound.flows stands).rising; few = λ task. omega arith }
+    record { stands = stands; number = refl; parent = refl; rising = (all_stands (IsSoundFlow s.next_task) k s.flows sound.flows stands).rising }
+
+-- a flow that isn't decided starts no others
+pub undecided_left : (place : ℕ) (before now : Flow) (s t : State) (k : Kept) → IsChanged s k now
+    → t.flows ≡ map (revised place before now) s.flows → t.next_flow ≡ s.next_flow → t.next_task ≡ s.next_task
+    → IsLeft place before s t k (turn_at now (record { flow = s.next_flow; task = s.next_task }))
+undecided_left place before now s t k changed flows next_flow next_task = record {
+  flows = flows ∙ sym (append-nil (map (revised place before now) s.flows));
+  next_flow = next_flow;
+  next_task = next_task;
+  stands = changed.stands;
+  number = changed.number;
+  parent = changed.parent;
+  tasks = omega arith;
+  rising = changed.rising;
+  born = omega arith;
+}
 
 module _ (limits : Limits) (place e : ℕ) (before now : Flow) (s : State) where
   abbrev start_turn : Turn

@@ -1,6 +1,8 @@
 -- What every state of a history keeps, where the first one does: no number is given twice, and no flow is nested in itself.
-use Rattle.std.specs.Prelude.{ℕ, ◌+◌, ◌<◌, ◌≤◌, if◌then◌else◌, All, List, [], ◌∷◌}
+use Rattle.std.specs.Prelude.{◌≡◌, ℕ, ◌+◌, ◌<◌, ◌≤◌, Bool, true, if◌then◌else◌, is_some, All, List, [], ◌∷◌}
+use Rattle.wf_names.specs.declared.ids.FlowNo.{FlowNo}
 use Rattle.wf_names.specs.declared.ids.TaskNo.{TaskNo}
+use Rattle.wf_machine.specs.Flows.{flow_numbered}
 use Rattle.wf_machine.specs.Records.{Held}
 use Rattle.wf_steps.specs.declared.calling.Call.{Call}
 use Rattle.wf_steps.specs.declared.calling.Call.TheVariants.{AddFlowDef, PutFlowDefs}
@@ -32,6 +34,19 @@ pub record IsSound (s : State) : Type 0 where
   pub from_one : 1 ≤ s.next_task
   pub flows : All (IsSoundFlow s.next_task) s.flows
   pub once : (task : TaskNo) → tally task s.flows ≤ 1
+
+-- ---- numbers
+
+abbrev pub is_kept : FlowNo → List Kept → Bool
+is_kept number flows = is_some (flow_numbered number flows)
+
+-- the second state comes after the first: the next numbers don't fall, and a number that was given by the first one and isn't
+-- there any more doesn't come back
+pub record IsLater (s t : State) : Type 0 where
+  pub next_flow : s.next_flow ≤ t.next_flow
+  pub next_task : s.next_task ≤ t.next_task
+  pub flows : (number : FlowNo) → number.0 < s.next_flow → is_kept number t.flows ≡ true → is_kept number s.flows ≡ true
+  pub tasks : (task : TaskNo) → task.0 < s.next_task → tally task t.flows ≤ tally task s.flows
 
 -- ---- loops
 

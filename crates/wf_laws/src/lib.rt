@@ -6,7 +6,7 @@ ghost use Rattle.wf_defs.specs.FlowReading.{flow_definition};
 ghost use Rattle.wf_defs.specs.FlowRules.{flow_rule};
 ghost use Rattle.wf_doc.specs.declared.doc.Doc.{Doc};
 ghost use Rattle.wf_laws.specs.HandOuts.{HandsOut, is_told_on};
-ghost use Rattle.wf_laws.specs.Sound.{BringsFitLoops, HasFitLoops, IsSound};
+ghost use Rattle.wf_laws.specs.Sound.{BringsFitLoops, HasFitLoops, IsLater, IsSound};
 ghost use Rattle.wf_machine.specs.Flows.{flow_numbered};
 ghost use Rattle.wf_machine.specs.State.{Kept, State, new_state};
 ghost use Rattle.wf_steps.specs.declared.calling.Entry.{Entry};
@@ -23,6 +23,11 @@ pub fn sound_stays()
     ensures later { (limits : Limits) (place : ℕ) (s : State) (entry : Entry) → IsSound s → IsSound (step limits place s entry).state }
     ensures always { (limits : Limits) (before : ℕ) (s : State) (history : List Entry) → IsSound s →
         IsSound (state_from limits before s history) }
+{}
+
+/// Numbers are given once: no history gives one that was given before, and what was removed or left behind doesn't come back.
+pub fn numbers_are_given_once()
+    ensures { (limits : Limits) (before : ℕ) (s : State) (history : List Entry) → IsSound s → IsLater s (state_from limits before s history) }
 {}
 
 /// The loops of a new store fit, as it has none, and a step whose call registers workflows with fit loops alone leaves them so:

@@ -10,6 +10,7 @@ use Rattle.wf_steps.specs.Calls.{IsProper}
 use Rattle.wf_fields.specs.Fields.{given, as_whole, as_count, count}
 use Rattle.wf_names.specs.TaskStatus.{task_status_named}
 use Rattle.wf_doc.specs.Doc.{as_text}
+use Rattle.wf_names.specs.declared.ids.FlowNo.{FlowNo}
 use Rattle.wf_names.specs.declared.statuses.TaskStatus.{TaskStatus}
 use Rattle.wf_names.specs.declared.statuses.TaskStatus.TheVariants.{Scheduled, InProgress, Completed, CompletedWithErrors, Skipped, Failed, FailedWithTerminalError, TimedOut, Canceled}
 use Rattle.wf_steps.specs.declared.calling.Call.TheVariants as call
@@ -83,6 +84,9 @@ module _ (limits : Limits) (mark : ℕ) (path : List ℕ) (query : List QueryPai
   of_named : (n : ℕ) (f : List ℕ → Asked) → ((text : List ℕ) → Fits (f text)) → Fits (then_read (spec.parameter n path) f)
   of_named n f h = then_fits (spec.parameter n path) f h
 
+  of_flow : (f : FlowNo → Asked) → ((flow : FlowNo) → Fits (f flow)) → Fits (then_read (spec.flow_at mark path) f)
+  of_flow f h = then_fits (spec.flow_at mark path) f h
+
   start_fits : Fits (spec.start_named limits path query bytes)
   start_fits =
       of_named 3 _ (λ name. then_fits (spec.version_query query) _ (λ version.
@@ -111,15 +115,16 @@ module _ (limits : Limits) (mark : ℕ) (path : List ℕ) (query : List QueryPai
   route_fits route.Poll = poll_fits
   route_fits route.GetTask = of_named 3 _ (λ text. tt {0})
   route_fits route.Update = of_document _ (λ d. then_fits (body.if_formed (body.is_update d) d) _ (λ (d' : Doc). update_fits mark d' (given (codes "status") d')))
-  route_fits route.Terminate = tt {0}
-  route_fits route.Remove = tt {0}
-  route_fits route.Pause = tt {0}
-  route_fits route.Resume = tt {0}
-  route_fits route.Restart = tt {0}
-  route_fits route.Retry = tt {0}
-  route_fits route.Rerun = tt {0}
+  route_fits route.Terminate = of_flow _ (λ flow. then_fits (spec.text_query (codes "reason") query) _ (λ reason. tt {0}))
+  route_fits route.Remove = of_flow _ (λ flow. tt {0})
+  route_fits route.Pause = of_flow _ (λ flow. tt {0})
+  route_fits route.Resume = of_flow _ (λ flow. tt {0})
+  route_fits route.Restart = of_flow _ (λ flow. then_fits (spec.false_query (codes "useLatestDefinitions") query) _ (λ wanted. tt {0}))
+  route_fits route.Retry = of_flow _ (λ flow. then_fits (spec.false_query (codes "resumeSubworkflowTasks") query) _ (λ wanted. tt {0}))
+  route_fits route.Rerun = of_flow _ (λ flow. of_document _ (λ d. formed_fits (body.is_rerun d) _ (tt {0})))
   route_fits route.Decide = of_named 4 _ (λ text. tt {0})
-  route_fits route.Skip = tt {0}
+  route_fits route.Skip =
+      of_flow _ (λ flow. of_named 5 _ (λ reference. then_fits (spec.input_of limits bytes) _ (λ d. formed_fits (body.is_skip d) _ (tt {0}))))
   route_fits route.PollBatch = tt {0}
   route_fits route.Sweep = tt {0}
   route_fits route.Shutdown = tt {0}

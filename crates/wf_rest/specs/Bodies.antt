@@ -10,7 +10,8 @@ use Rattle.wf_names.specs.Ids.{id_read, kind_octet}
 use Rattle.wf_names.specs.declared.statuses.TaskStatus.{TaskStatus}
 use Rattle.wf_names.specs.TaskStatus.{task_status_named}
 use Rattle.wf_steps.specs.declared.calling.Call.{Call}
-use Rattle.wf_steps.specs.declared.calling.Call.TheVariants.{PutTaskDefs, UpdateTaskDef, AddFlowDef, PutFlowDefs, Start, Update}
+use Rattle.wf_steps.specs.declared.calling.Call.TheVariants.{PutTaskDefs, UpdateTaskDef, AddFlowDef, PutFlowDefs, Start, Update, Operate}
+use Rattle.wf_steps.specs.declared.operation.Operation.TheVariants.{Rerun, Skip}
 use Rattle.wf_machine.specs.declared.calling.TaskResult.{TaskResult}
 use Rattle.wf_machine.specs.Tasks.{is_result_status}
 use Rattle.wf_fields.specs.declared.fields.Form.TheVariants.{AText, ATable}
@@ -149,3 +150,25 @@ update_with mark d (Some status) =
 abbrev pub update_of : ℕ → Doc → Asked
 update_of mark d =
     then_read (if_formed (is_update d) d) (λ (d : Doc). update_with mark d (option_and_then told_status (given (codes "status") d)))
+
+-- ---- what operators do
+
+-- what a rerun wants of its body
+abbrev pub is_rerun : Doc → Bool
+is_rerun d =
+    is_table d && is_given (has_form AText) (codes "reRunFromTaskId") d && is_absent_or (has_form ATable) (codes "workflowInput") d
+    && is_absent_or is_empty_value (codes "taskInput") d
+
+-- the flow keeps its input where the body gives none
+abbrev pub rerun_of : ℕ → FlowNo → Doc → Asked
+rerun_of mark flow d =
+    if_formed (is_rerun d)
+    (Operate flow (Rerun (record { 0 = id_number mark kind.Task (text_in (codes "reRunFromTaskId") d) }) (given (codes "workflowInput") d)))
+
+-- what a skip wants of its body
+abbrev pub is_skip : Doc → Bool
+is_skip d = is_absent_or (has_form ATable) (codes "taskInput") d && is_absent_or (has_form ATable) (codes "taskOutput") d
+
+abbrev pub skip_of : FlowNo → List ℕ → Doc → Asked
+skip_of flow reference d =
+    if_formed (is_skip d) (Operate flow (Skip reference (table_in (codes "taskInput") d) (table_in (codes "taskOutput") d)))

@@ -7,11 +7,14 @@ use Rattle.wf_doc.specs.declared.scan.DocFault.{DocFault}
 use Rattle.wf_doc.specs.declared.scan.DocFault.TheVariants as document
 use Rattle.wf_doc.specs.Doc.{as_table}
 use Rattle.wf_doc.specs.Read.{read}
+use Rattle.wf_names.specs.declared.ids.FlowNo.{FlowNo}
 use Rattle.wf_names.specs.declared.ids.IdKind.TheVariants as kind
 use Rattle.wf_wire.specs.Fields.{same_word}
 use Rattle.wf_wire.specs.Request.{Request, values_of}
 use Rattle.wf_wire.specs.declared.limits.Limits.{Limits}
 use Rattle.wf_steps.specs.declared.calling.Call.TheVariants as call
+use Rattle.wf_steps.specs.declared.operation.Operation.{Operation}
+use Rattle.wf_steps.specs.declared.operation.Operation.TheVariants as operation
 use Rattle.wf_machine.specs.State.{empty_table}
 use Rattle.wf_machine.specs.Text.{same_text}
 use Rattle.wf_routes.specs.declared.faults.Unrouted.{Unrouted}
@@ -27,7 +30,7 @@ use Rattle.wf_routes.specs.Queries.{QueryPair, query_pairs, query_value}
 use Rattle.wf_rest.specs.Numbers.{number_in}
 use Rattle.wf_rest.specs.declared.faulting.HttpFault.{HttpFault}
 use Rattle.wf_rest.specs.declared.faulting.HttpFault.TheVariants as fault
-use Rattle.wf_rest.specs.Bodies.{Asked, then_read, items_of_body, task_defs_of, task_def_of, flow_def_of, flow_defs_of, start_of, update_of, id_number}
+use Rattle.wf_rest.specs.Bodies.{Asked, then_read, items_of_body, task_defs_of, task_def_of, flow_def_of, flow_defs_of, start_of, update_of, rerun_of, skip_of, id_number}
 use Rattle.wf_rest.specs.Moments.{has_bad_moment}
 
 -- ---- fields
@@ -78,6 +81,13 @@ truth_of text = if same_text text (codes "true") then Some true else if same_tex
 
 abbrev pub tasks_query : List QueryPair → Result Bool HttpFault
 tasks_query query = query_or true truth_of (codes "includeTasks") query
+
+-- it is absent, or `false`
+abbrev pub false_of : List ℕ → Option Bool
+false_of text = if same_text text (codes "false") then Some false else None
+
+abbrev pub false_query : List ℕ → List QueryPair → Result Bool HttpFault
+false_query key query = query_or false false_of key query
 
 -- a domain is absent or empty
 abbrev pub domain_of : List ℕ → Option (List ℕ)
@@ -154,6 +164,40 @@ get_task mark path = then_read (parameter 3 path) (λ text. Ok (call.GetTask (re
 abbrev pub decide : ℕ → List ℕ → Asked
 decide mark path = then_read (parameter 4 path) (λ text. Ok (call.Decide (record { 0 = id_number mark kind.Flow text })))
 
+-- the flow that a text names
+abbrev pub flow_named : ℕ → List ℕ → FlowNo
+flow_named mark text = record { 0 = id_number mark kind.Flow text }
+
+-- the flow that the path names
+abbrev pub flow_at : ℕ → List ℕ → Result FlowNo HttpFault
+flow_at mark path = then_read (parameter 3 path) (λ text. Ok (flow_named mark text))
+
+-- what an operator does to it
+abbrev pub operate : ℕ → List ℕ → Operation → Asked
+operate mark path asked = then_read (flow_at mark path) (λ flow. Ok (call.Operate flow asked))
+
+-- the same where the query may say `false` under that key, and nothing else
+abbrev pub operate_unless : List ℕ → ℕ → List ℕ → List QueryPair → Operation → Asked
+operate_unless key mark path query asked =
+    then_read (flow_at mark path) (λ flow. then_read (false_query key query) (λ wanted. Ok (call.Operate flow asked)))
+
+abbrev pub terminate : ℕ → List ℕ → List QueryPair → Asked
+terminate mark path query =
+    then_read (flow_at mark path) (λ flow.
+    then_read (text_query (codes "reason") query) (λ reason. Ok (call.Operate flow (operation.Terminate reason))))
+
+abbrev pub remove : ℕ → List ℕ → Asked
+remove mark path = then_read (flow_at mark path) (λ flow. Ok (call.Remove flow))
+
+abbrev pub rerun : Limits → ℕ → List ℕ → List ℕ → Asked
+rerun limits mark path body =
+    then_read (flow_at mark path) (λ flow. then_read (document_of limits body) (rerun_of mark flow))
+
+abbrev pub skip : Limits → ℕ → List ℕ → List ℕ → Asked
+skip limits mark path body =
+    then_read (flow_at mark path) (λ flow.
+    then_read (parameter 5 path) (λ reference. then_read (input_of limits body) (skip_of flow reference)))
+
 -- the call of a request with that route. What isn't built says so before it is read further
 unfoldable pub by_route : Limits → ℕ → List ℕ → List QueryPair → List ℕ → Route → Asked
 by_route limits mark path query body route.PutTaskDefs = put_task_defs limits body
@@ -175,7 +219,16 @@ by_route limits mark path query body route.GetTask = get_task mark path
 by_route limits mark path query body route.Update = then_read (document_of limits body) (update_of mark)
 by_route limits mark path query body route.Decide = decide mark path
 by_route limits mark path query body route.Sweep = Ok call.Sweep
-by_route limits mark path query body other = Err fault.NotBuilt
+by_route limits mark path query body route.Terminate = terminate mark path query
+by_route limits mark path query body route.Remove = remove mark path
+by_route limits mark path query body route.Pause = operate mark path operation.Pause
+by_route limits mark path query body route.Resume = operate mark path operation.Resume
+by_route limits mark path query body route.Restart = operate_unless (codes "useLatestDefinitions") mark path query operation.Restart
+by_route limits mark path query body route.Retry = operate_unless (codes "resumeSubworkflowTasks") mark path query operation.Retry
+by_route limits mark path query body route.Rerun = rerun limits mark path body
+by_route limits mark path query body route.Skip = skip limits mark path body
+by_route limits mark path query body route.Shutdown = Ok call.Shutdown
+by_route limits mark path query body route.PollBatch = Err fault.NotBuilt
 
 -- the methods that a path has
 abbrev pub allowed : Option Path → List ℕ

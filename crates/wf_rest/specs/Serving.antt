@@ -1,13 +1,14 @@
 -- What a server answers to a list of requests, and that its answers are those of one history.
-use Rattle.std.specs.Prelude.{◌≡◌, ℕ, Bool, true, false, if◌then◌else◌, List, [], ◌∷◌, ◌++◌, map, codes, Option, None, Some, Ok, Err}
+use Rattle.std.specs.Prelude.{◌≡◌, ℕ, ◌&&◌, ◌||◌, Bool, true, false, List, [], ◌∷◌, ◌++◌, map, codes, Option, None, Some, Ok, Err}
 use Rattle.std.specs.Result.{result_ok}
-use Rattle.std.specs.List.{cons_option, filter_map, list_all, list_any}
+use Rattle.std.specs.List.{cons_option, filter_map, list_all}
 use Rattle.wf_names.specs.declared.refusals.Refusal.TheVariants.{NoMemory}
 use Rattle.wf_wire.specs.Request.{Request, closes}
 use Rattle.wf_wire.specs.declared.limits.Limits.{Limits}
 use Rattle.wf_steps.specs.declared.calling.Call.{Call}
+use Rattle.wf_steps.specs.declared.calling.Call.TheVariants.{Shutdown}
 use Rattle.wf_machine.specs.declared.calling.Reply.{Reply}
-use Rattle.wf_machine.specs.declared.calling.Reply.TheVariants.{Refused}
+use Rattle.wf_machine.specs.declared.calling.Reply.TheVariants.{Accepted, Refused}
 use Rattle.wf_steps.specs.declared.calling.Entry.{Entry}
 use Rattle.wf_machine.specs.State.{State}
 use Rattle.wf_steps.specs.Calls.{stepped, is_starved, entry_of, step}
@@ -39,24 +40,28 @@ fault_in (Err fault) = fault
 abbrev pub fault_of : Limits → ℕ → Request → HttpFault
 fault_of limits mark m = fault_in (timed_call limits mark m)
 
--- the bytes of one answer: a reply, or else the fault of the request
+abbrev pub is_shutdown : Option Call → Bool
+is_shutdown (Some Shutdown) = true
+is_shutdown call = false
+
+abbrev pub was_accepted : Option Reply → Bool
+was_accepted (Some Accepted) = true
+was_accepted reply = false
+
+-- nothing is answered after it: the request closes, or it asks for the end of the run, and that was accepted
+abbrev pub is_last : Limits → ℕ → Answered → Bool
+is_last limits mark a = closes a.request || (is_shutdown (call_of limits mark a.request) && was_accepted a.reply)
+
+-- the bytes of one answer: a reply, or else the fault of the request. After the last one the connection ends
 abbrev pub answer_bytes : Limits → ℕ → Request → Option Reply → List ℕ
 answer_bytes limits mark m None = printed_fault (fault_of limits mark m) (closes m) (is_head m)
-answer_bytes limits mark m (Some reply) = printed_reply mark reply (closes m) (is_head m)
+answer_bytes limits mark m (Some reply) =
+    printed_reply mark reply (is_last limits mark (record { request = m; reply = Some reply })) (is_head m)
 
 -- the bytes of the answers, one after another
 abbrev pub wire : Limits → ℕ → List Answered → List ℕ
 wire limits mark [] = []
 wire limits mark (a ∷ rest) = answer_bytes limits mark a.request a.reply ++ wire limits mark rest
-
--- the requests up to and with the first that closes
-abbrev pub served : List Request → List Request
-served [] = []
-served (m ∷ ms) = if closes m then m ∷ [] else m ∷ served ms
-
--- one of the requests closes
-abbrev pub ends_closed : List Request → Bool
-ends_closed ms = list_any closes ms
 
 abbrev pub requests : List Answered → List Request
 requests answered = map (λ a. a.request) answered

@@ -11,6 +11,7 @@ mod faulting;
 mod ids;
 mod moments;
 mod numbers;
+mod operations;
 mod replies;
 mod requests;
 mod response;

@@ -7,6 +7,7 @@ use crate::bodies::{document_of, input_of, items_of_body};
 use crate::definitions::{flow_def_of, flow_defs_of, task_def_of, task_defs_of};
 use crate::faulting::HttpFault;
 use crate::ids::{flow_named, task_named};
+use crate::operations::{operate, remove, rerun, restart, retry, skip, terminate};
 use crate::starts::start_of;
 use crate::targets::{
     has_no_domain, parameter, tasks_query, text_query, version_parameter, version_query,
@@ -15,7 +16,7 @@ use crate::updates::update_of;
 use std::alloc::Global;
 use wf_routes::Query;
 use wf_routes::table::Route;
-use wf_steps::Call;
+use wf_steps::{Call, Operation};
 use wf_wire::Limits;
 
 /// The call of a request with that route, in the store with that mark.
@@ -53,7 +54,16 @@ pub fn by_route(
         Route::Update => update_of(alloc, mark, &document_of(alloc, limits, body)?),
         Route::Decide => decide(alloc, mark, path),
         Route::Sweep => Ok(Call::Sweep),
-        _ => Err(HttpFault::NotBuilt),
+        Route::Terminate => terminate(alloc, mark, path, query),
+        Route::Remove => remove(alloc, mark, path),
+        Route::Pause => operate(alloc, mark, path, Operation::Pause),
+        Route::Resume => operate(alloc, mark, path, Operation::Resume),
+        Route::Restart => restart(alloc, mark, path, query),
+        Route::Retry => retry(alloc, mark, path, query),
+        Route::Rerun => rerun(alloc, limits, mark, path, body),
+        Route::Skip => skip(alloc, limits, mark, path, body),
+        Route::Shutdown => Ok(Call::Shutdown),
+        Route::PollBatch => Err(HttpFault::NotBuilt),
     }
 }
 

@@ -55,7 +55,7 @@ fn version_in(doc: &Doc) -> Option<u32>
     as_count(given(doc, "version")?)
 }
 
-fn is_absent_or_empty(doc: &Doc, key: &str) -> bool
+pub fn is_absent_or_empty(doc: &Doc, key: &str) -> bool
     ensures { result ≡ is_absent_or spec.is_empty_value key.now doc.now }
 {
     match given(doc, key) {

@@ -1,6 +1,6 @@
 //! The parameters of a path and the values of a query.
 
-ghost use Rattle.std.specs.Prelude.{◌≡◌, ◌≢◌, Err, [], IfErr, IfOk, Ok, OnOk};
+ghost use Rattle.std.specs.Prelude.{◌≡◌, ◌≢◌, Err, [], false, IfErr, IfOk, Ok, OnOk};
 ghost use Rattle.wf_routes.specs.Target.{parameter_text};
 ghost use Rattle.wf_rest.specs.Requests as spec;
 
@@ -84,6 +84,17 @@ pub fn tasks_query(query: &Query) -> Result<bool, HttpFault>
         Ok(false)
     } else {
         Err(HttpFault::BadQuery)
+    }
+}
+
+/// The query has `false` under the key, or nothing.
+pub fn is_false_query(query: &Query, key: &str) -> Result<(), HttpFault>
+    ensures ok { OnOk result (spec.false_query key.now query.now ≡ Ok false) }
+    ensures err { IfErr result (λ fault. spec.false_query key.now query.now ≡ Err fault) }
+{
+    match query.value(key) {
+        Some(text) if text != "false" => Err(HttpFault::BadQuery),
+        _ => Ok(()),
     }
 }
 

@@ -15,6 +15,7 @@ use Rattle.wf_steps.specs.declared.calling.Call.{Call}
 use Rattle.wf_steps.specs.declared.calling.Call.TheVariants as call
 use Rattle.wf_machine.specs.declared.definition.FlowDef.{FlowDef}
 use Rattle.wf_fields.specs.Fields.{given}
+use Rattle.wf_names.specs.declared.ids.FlowNo.{FlowNo}
 use Rattle.wf_names.specs.declared.statuses.TaskStatus.{TaskStatus}
 use Rattle.wf_defs.specs.declared.faults.DefFault.{DefFault}
 use Rattle.wf_defs.specs.FlowReading.{flow_definition}
@@ -82,6 +83,9 @@ module _ (limits : Limits) (mark : ℕ) (path : List ℕ) (query : List QueryPai
   of_named : (n : ℕ) (f : List ℕ → Asked) → ((text : List ℕ) → Brings (f text)) → Brings (then_read (spec.parameter n path) f)
   of_named n f h = then_brings (spec.parameter n path) f h
 
+  of_flow : (f : FlowNo → Asked) → ((flow : FlowNo) → Brings (f flow)) → Brings (then_read (spec.flow_at mark path) f)
+  of_flow f h = then_brings (spec.flow_at mark path) f h
+
   start_brings : Brings (spec.start_named limits path query bytes)
   start_brings =
       of_named 3 _ (λ name. then_brings (spec.version_query query) _ (λ version.
@@ -112,15 +116,16 @@ module _ (limits : Limits) (mark : ℕ) (path : List ℕ) (query : List QueryPai
   route_brings route.Poll = poll_brings
   route_brings route.GetTask = of_named 3 _ (λ text. tt {0})
   route_brings route.Update = of_document _ (λ d. then_brings (body.if_formed (body.is_update d) d) _ (λ (d' : Doc). updated_brings mark d' (option_and_then body.told_status (given (codes "status") d'))))
-  route_brings route.Terminate = tt {0}
-  route_brings route.Remove = tt {0}
-  route_brings route.Pause = tt {0}
-  route_brings route.Resume = tt {0}
-  route_brings route.Restart = tt {0}
-  route_brings route.Retry = tt {0}
-  route_brings route.Rerun = tt {0}
+  route_brings route.Terminate = of_flow _ (λ flow. then_brings (spec.text_query (codes "reason") query) _ (λ reason. tt {0}))
+  route_brings route.Remove = of_flow _ (λ flow. tt {0})
+  route_brings route.Pause = of_flow _ (λ flow. tt {0})
+  route_brings route.Resume = of_flow _ (λ flow. tt {0})
+  route_brings route.Restart = of_flow _ (λ flow. then_brings (spec.false_query (codes "useLatestDefinitions") query) _ (λ wanted. tt {0}))
+  route_brings route.Retry = of_flow _ (λ flow. then_brings (spec.false_query (codes "resumeSubworkflowTasks") query) _ (λ wanted. tt {0}))
+  route_brings route.Rerun = of_flow _ (λ flow. of_document _ (λ d. formed_brings (body.is_rerun d) _ (tt {0})))
   route_brings route.Decide = of_named 4 _ (λ text. tt {0})
-  route_brings route.Skip = tt {0}
+  route_brings route.Skip =
+      of_flow _ (λ flow. of_named 5 _ (λ reference. then_brings (spec.input_of limits bytes) _ (λ d. formed_brings (body.is_skip d) _ (tt {0}))))
   route_brings route.PollBatch = tt {0}
   route_brings route.Sweep = tt {0}
   route_brings route.Shutdown = tt {0}

@@ -17,7 +17,7 @@ use Rattle.wf_machine.specs.declared.definition.FlowDef.{FlowDef}
 use Rattle.wf_machine.specs.declared.definition.TaskDef.{TaskDef}
 use Rattle.wf_machine.specs.declared.calling.TaskResult.{TaskResult}
 use Rattle.wf_steps.specs.declared.calling.Call.{Call}
-use Rattle.wf_steps.specs.declared.calling.Call.TheVariants.{PutTaskDefs, UpdateTaskDef, TaskDefs, TaskDefNamed, DropTaskDef, AddFlowDef, PutFlowDefs, FlowDefs, FlowDefNamed, DropFlowDef, Start, GetFlow, Running, Poll, GetTask, Update, Decide, Sweep}
+use Rattle.wf_steps.specs.declared.calling.Call.TheVariants.{PutTaskDefs, UpdateTaskDef, TaskDefs, TaskDefNamed, DropTaskDef, AddFlowDef, PutFlowDefs, FlowDefs, FlowDefNamed, DropFlowDef, Start, GetFlow, Running, Poll, GetTask, Update, Decide, Sweep, Operate, Remove, Shutdown, Look, Drain}
 use Rattle.wf_machine.specs.declared.calling.Reply.TheVariants.{Accepted, Id, Json, Nothing}
 use Rattle.wf_steps.specs.declared.calling.Entry.{Entry}
 use Rattle.wf_steps.specs.declared.operation.Operation.{Operation}
@@ -311,7 +311,7 @@ flow_operated-stored limits place e operation s f =
     (stepped (with_operated limits 0 e operation f (stored s)) reply) s
     (ap (λ t. stepped t reply) (operated-stored limits place e operation f s))
 
-pub operate-stored : (limits : Limits) (place e : ℕ) (number : FlowNo) (operation : Operation) (s : State)
+operate-stored : (limits : Limits) (place e : ℕ) (number : FlowNo) (operation : Operation) (s : State)
     → stored_step (operate limits place e number operation s) ≡ operate limits 0 e number operation (stored s)
 unfolding operate
 operate-stored limits place e number operation s =
@@ -350,7 +350,7 @@ flow_removed-stored place e s f =
     (ap (λ flows. stepped (record (stored s) { last = e; flows = flows }) Accepted) (removed-stored place f s.flows))
     ∙ ap (λ kept. or_refused (first_refusal (remove_refusals kept f)) (made 0 (stored s)) (stored s)) (sym (parent_kept-stored s f))
 
-pub remove-stored : (place e : ℕ) (number : FlowNo) (s : State) → stored_step (remove place e number s) ≡ remove 0 e number (stored s)
+remove-stored : (place e : ℕ) (number : FlowNo) (s : State) → stored_step (remove place e number s) ≡ remove 0 e number (stored s)
 unfolding remove
 remove-stored place e number s = of_flow-stored number (flow_removed place e s) (flow_removed 0 e (stored s)) s (flow_removed-stored place e s)
 
@@ -392,6 +392,11 @@ call-stored limits place e Sweep s =
     rw (needs-stored limits e s)
     (stored-found unplaced (needs limits e s) _ (λ (k : Kept). stepped (settle limits 0 e k.flow (stored s)) (Id kind.Flow k.flow.number.0)) (stepped s Nothing) (stepped (stored s) Nothing)
     (λ k. ap (λ t. stepped t (Id kind.Flow k.flow.number.0)) (settle-stored limits place e k.flow s)) refl)
+call-stored limits place e (Operate number operation) s = operate-stored limits place e number operation s
+call-stored limits place e (Remove number) s = remove-stored place e number s
+call-stored limits place e Shutdown s = refl
+call-stored limits place e (Look number) s = refl
+call-stored limits place e Drain s = refl
 
 step-stored : (limits : Limits) (place : ℕ) (s : State) (entry : Entry) → stored_step (step limits place s entry) ≡ step limits 0 (stored s) entry
 step-stored limits place s entry =

@@ -11,7 +11,7 @@ use Rattle.wf_machine.specs.declared.definition.FlowDef.{FlowDef}
 use Rattle.wf_machine.specs.declared.definition.TaskDef.{TaskDef}
 use Rattle.wf_machine.specs.declared.calling.TaskResult.{TaskResult}
 use Rattle.wf_steps.specs.declared.calling.Call.{Call}
-use Rattle.wf_steps.specs.declared.calling.Call.TheVariants.{PutTaskDefs, UpdateTaskDef, TaskDefs, TaskDefNamed, DropTaskDef, AddFlowDef, PutFlowDefs, FlowDefs, FlowDefNamed, DropFlowDef, Start, GetFlow, Running, Poll, GetTask, Update, Decide, Sweep}
+use Rattle.wf_steps.specs.declared.calling.Call.TheVariants.{PutTaskDefs, UpdateTaskDef, TaskDefs, TaskDefNamed, DropTaskDef, AddFlowDef, PutFlowDefs, FlowDefs, FlowDefNamed, DropFlowDef, Start, GetFlow, Running, Poll, GetTask, Update, Decide, Sweep, Operate, Remove, Shutdown, Look, Drain}
 use Rattle.wf_machine.specs.declared.calling.Reply.{Reply}
 use Rattle.wf_machine.specs.declared.calling.Reply.TheVariants.{Nothing, Refused}
 use Rattle.wf_steps.specs.declared.operation.Operation.{Operation}
@@ -103,14 +103,14 @@ reply-fed Retry number = refl
 reply-fed (Rerun task input) number = refl
 reply-fed (Skip reference input output) number = refl
 
-pub operate-fed : (limits : Limits) (place e : ℕ) (number : FlowNo) (operation : Operation) (s : State)
+operate-fed : (limits : Limits) (place e : ℕ) (number : FlowNo) (operation : Operation) (s : State)
     → is_starved (operate limits place e number operation s).reply ≡ false
 unfolding operate
 operate-fed limits place e number operation s =
     fed-flow number (flow_operated limits place e operation s) s
     (λ f. fed-unless (operation_refusals limits s.next_task operation f) _ s (operations-fed limits s.next_task operation f) (reply-fed operation f.number))
 
-pub remove-fed : (place e : ℕ) (number : FlowNo) (s : State) → is_starved (remove place e number s).reply ≡ false
+remove-fed : (place e : ℕ) (number : FlowNo) (s : State) → is_starved (remove place e number s).reply ≡ false
 unfolding remove
 remove-fed place e number s =
     fed-flow number (flow_removed place e s) s (λ f. fed-unless (remove_refusals (is_parent_kept s f) f) _ s (refl, (refl, tt)) refl)
@@ -141,6 +141,11 @@ never_starved limits place e (Update wanted task outcome) s =
     fed-update_of limits place e wanted task outcome (flow_of_task task s.flows) s
 never_starved limits place e (Decide number) s = fed-found (flow_numbered number s.flows) _ (refused NotFound s) (λ k. refl) refl
 never_starved limits place e Sweep s = fed-found (needs limits e s) _ (stepped s Nothing) (λ k. refl) refl
+never_starved limits place e (Operate number operation) s = operate-fed limits place e number operation s
+never_starved limits place e (Remove number) s = remove-fed place e number s
+never_starved limits place e Shutdown s = refl
+never_starved limits place e (Look number) s = refl
+never_starved limits place e Drain s = refl
 
 -- where the machine's call was made, its entry isn't starved
 pub made_step : (limits : Limits) (place caller moment : ℕ) (call : Call) (s new : State) (reply : Reply)

@@ -16,7 +16,7 @@ use Rattle.wf_machine.specs.declared.definition.FlowDef.{FlowDef}
 use Rattle.wf_machine.specs.declared.definition.TaskDef.{TaskDef}
 use Rattle.wf_machine.specs.declared.calling.TaskResult.{TaskResult}
 use Rattle.wf_steps.specs.declared.calling.Call.{Call}
-use Rattle.wf_steps.specs.declared.calling.Call.TheVariants.{PutTaskDefs, UpdateTaskDef, TaskDefs, TaskDefNamed, DropTaskDef, AddFlowDef, PutFlowDefs, FlowDefs, FlowDefNamed, DropFlowDef, Start, GetFlow, Running, Poll, GetTask, Update, Decide, Sweep}
+use Rattle.wf_steps.specs.declared.calling.Call.TheVariants.{PutTaskDefs, UpdateTaskDef, TaskDefs, TaskDefNamed, DropTaskDef, AddFlowDef, PutFlowDefs, FlowDefs, FlowDefNamed, DropFlowDef, Start, GetFlow, Running, Poll, GetTask, Update, Decide, Sweep, Operate, Remove, Shutdown, Look, Drain}
 use Rattle.wf_machine.specs.declared.calling.Reply.{Reply}
 use Rattle.wf_machine.specs.declared.calling.Reply.TheVariants.{Accepted, Id, Json, Nothing, Refused}
 use Rattle.wf_steps.specs.declared.calling.Entry.{Entry}
@@ -369,6 +369,11 @@ call_made limits place e (GetTask task) s = get_task task s
 call_made limits place e (Update wanted task outcome) s = update limits place e wanted task outcome s
 call_made limits place e (Decide number) s = decide_flow limits place e number s
 call_made limits place e Sweep s = sweep limits place e s
+call_made limits place e (Operate number operation) s = operate limits place e number operation s
+call_made limits place e (Remove number) s = remove place e number s
+call_made limits place e Shutdown s = stepped s Accepted
+call_made limits place e (Look number) s = stepped s Nothing
+call_made limits place e Drain s = stepped s Nothing
 
 -- one step: a call acts at its moment, or at that of the last change where that is later; a starved entry
 -- changes nothing

@@ -1,5 +1,6 @@
 //! Calls of the machine, and the entries of its history.
 
+use crate::operation::Operation;
 use wf_doc::{Doc, Text};
 use wf_machine::{FlowDef, FlowDefs, TaskDef, TaskDefs, TaskResult};
 use wf_names::{FlowNo, TaskNo};
@@ -52,6 +53,16 @@ pub enum Call {
     Decide(FlowNo),
     /// Decides the flow of the least number that has something to be decided.
     Sweep,
+    /// Does what an operator does to a flow.
+    Operate(FlowNo, Operation),
+    /// Takes a flow that has ended out of the store, with its attempts.
+    Remove(FlowNo),
+    /// Ends the run. It changes nothing.
+    Shutdown,
+    /// A server looks at the flow of that number, to plan beside the machine. It changes nothing.
+    Look(FlowNo),
+    /// A server takes away what changed since the last time, to store it. It changes nothing.
+    Drain,
 }
 
 /// One entry of a history. A starved one was refused for want of memory, and changes nothing.

@@ -7,7 +7,6 @@ use Rattle.wf_rules.specs.Sight.{Scene, scene_in}
 use Rattle.wf_rules.proofs.PlanLemmas.{plan_decides}
 use Rattle.wf_turn.specs.Growing.{IsLaterTurn}
 use Rattle.wf_turn.proofs.GrowLemmas.{later_made}
-use Rattle.wf_core.specs.Store.{Store}
 use Rattle.wf_core.proofs.BesideLemmas.{below_more}
 use Rattle.wf_core.proofs.steps.Core.decide.Goals as goal
 
@@ -17,9 +16,9 @@ decide-requires-clause-children c =
     subst (λ (t : Turn). AllBelow t.next_flow cs) (sym c.new-turn.ensures) (below_more c.args.self.now.state.next_flow c.args.next_flow cs c.requires.next c.setting-at.ensures.below)
 
 -- what the decision is of
-decided : (c : goal.After-next_task-2)
+decided : (c : goal.After-next_task)
     → c.decide.new.turn ≡ decide c.args.self.now.limits (scene_in c.args.self.now.state c.args.flow.flow) c.args.kept c.args.moment
-    (turn_at c.args.flow.flow (record { flow = c.args.next_flow; task = c.args.self.now.state.next_task }))
+    (turn_at c.args.flow.flow (record { flow = c.args.next_flow; task = c.args.next_task }))
 decided c =
     let limits = c.args.self.now.limits in
     let scene = scene_in c.args.self.now.state c.args.flow.flow in
@@ -30,8 +29,6 @@ decided c =
     ∙ ap (λ (x : Scene). decide limits x c.args.kept at.moment c.new-turn.result) told.scene
     ∙ ap (λ (m : ℕ). decide limits scene c.args.kept m c.new-turn.result) told.moment
     ∙ ap (λ (t : Turn). decide limits scene c.args.kept c.args.moment t) c.new-turn.ensures
-    ∙ ap (λ (n : ℕ). decide limits scene c.args.kept c.args.moment (turn_at c.args.flow.flow (record { flow = c.args.next_flow; task = n })))
-    (c.next_task.ensures.value ∙ ap (λ (s : Store). s.state.next_task) c.self.view_is)
 
 pub returns-clause-turn : goal.returns-clause-turn
 returns-clause-turn c = decided c
@@ -40,6 +37,6 @@ pub returns-clause-later : goal.returns-clause-later
 returns-clause-later c =
     let limits = c.args.self.now.limits in
     let scene = scene_in c.args.self.now.state c.args.flow.flow in
-    let start = turn_at c.args.flow.flow (record { flow = c.args.next_flow; task = c.args.self.now.state.next_task }) in
+    let start = turn_at c.args.flow.flow (record { flow = c.args.next_flow; task = c.args.next_task }) in
     subst (λ (t : Turn). IsLaterTurn start t) (plan_decides limits scene c.args.kept c.args.moment start ∙ sym (decided c))
     (later_made c.args.moment (plan limits scene c.args.kept c.args.moment start) start)

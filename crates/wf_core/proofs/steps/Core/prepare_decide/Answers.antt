@@ -1,6 +1,5 @@
 use Rattle.std.proofs.Common.{◌≡◌, ◌+◌, Some, sym, ap, subst, ◌∙◌}
 use Rattle.std.specs.List.{All}
-use Rattle.wf_names.specs.declared.ids.IdKind.TheVariants as kind
 use Rattle.wf_machine.specs.State.{Flow}
 use Rattle.wf_machine.specs.Flows.{flow_numbered}
 use Rattle.wf_steps.specs.Calls.{Stepped, is_settled}
